@@ -3,6 +3,7 @@ use Rattle.std.specs.Prelude.{◌≡◌, false}
 use Rattle.sqlite.specs.Effect.{Database}
 use Rattle.sqlite_wal.specs.Recovery.{Image}
 use Rattle.registry_model.specs.Keeping.{Kept, nothing_held}
+use Rattle.store_contents.specs.Layouts.{InTables}
 use Rattle.store_statements.specs.World.{world_of}
 use Rattle.store_statements.specs.Held.{tables_in}
 use Rattle.registry_store.specs.Opening.{OpensOn}
@@ -12,4 +13,4 @@ use Rattle.registry_store.specs.Opening.{OpensOn}
 abbrev pub MayOpen : Image → Kept → Type 0
 MayOpen image s =
     (s.spent ≡ false) × (s.held ≡ nothing_held) × (now : Database) × OpensOn image now
-    × (s.world ≡ world_of (tables_in now))
+    × (s.world ≡ world_of (tables_in InTables now))

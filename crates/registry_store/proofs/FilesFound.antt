@@ -7,6 +7,7 @@ use Rattle.sqlite.specs.Start.{FindsIn}
 use Rattle.sqlite.specs.State.{State, HasCleanDisk, Survives, Opens, IsLive}
 use Rattle.sqlite_wal.specs.Recovery.{Image}
 use Rattle.registry_model.specs.World.{no_world}
+use Rattle.store_contents.specs.Layouts.{InTables}
 use Rattle.store_schema.specs.Schema.{no_schema}
 use Rattle.store_schema.specs.Making.{IsEmptyWith}
 use Rattle.store_statements.specs.Held.{world_in}
@@ -38,7 +39,7 @@ may_take_up image s were opened finds clean = by (opened clean)
 
 -- the store that was made over it is one that was opened on the files
 pub opens_on : {C E : Type 0} (seen : C → State) (image : Image) (s : State) → (HasCleanDisk s → Opens s × IsLive s) → (HasCleanDisk s → FindsIn image s) → (r : Result C E)
-    → IfOk r (λ c. HasCleanDisk (seen c) → IsEmptyWith no_schema s.now → world_in (seen c) ≡ no_world)
+    → IfOk r (λ c. HasCleanDisk (seen c) → IsEmptyWith no_schema s.now → world_in InTables (seen c) ≡ no_world)
     → IfOk r (λ c. HasCleanDisk (seen c) → IsIdle s → HoldsRegistry s.now → (seen c).now ≡ s.now)
     → IfOk r (λ c. Survives s (seen c) (λ _. ⊤)) → IfOk r (λ c. HasCleanDisk (seen c) → OpensOn image (seen c).now)
 opens_on seen image s opened finds (Ok c) made found lasts = λ clean. by clean (was_clean s (seen c) lasts clean)

@@ -12,6 +12,7 @@ use Rattle.oci_types.specs.declared.fault.Fault.TheVariants.{Memory}
 use Rattle.registry_model.specs.World.{Repo, World, repo_at, has_repo, update_repo}
 use Rattle.registry_model.specs.Sessions.{opened, appended}
 use Rattle.registry_model.specs.Lookups.{append, bytes_or_none, last_number_at, open_session, session_at}
+use Rattle.store_contents.specs.Layouts.{InTables}
 use Rattle.store_reads.proofs.WorldReads.{no_session}
 use Rattle.store_statements.specs.Held.{IsSettled, StaysSettled, SettlesOn, is_storage, held, world_in}
 use Rattle.store_statements.specs.Between.{CrashLeaves, Stays, Tells, StaysOnMemory, MakesWorld}
@@ -31,89 +32,89 @@ use Rattle.registry_store.proofs.KeeperAnswers.{made}
 
 -- what is known, whether the write was made or not
 pub follows_made : {A : Type 0} (known knew : KnownUsages) (before after : sqlite.State) (name : Text) (f : Repo → Repo) (change : Option Change) (answer : Result A Fault)
-    → Knows known (world_in before) → has_repo (world_in before) name ≡ true → IfSome change (Foretells (world_in before) name f)
+    → Knows known (world_in InTables before) → has_repo (world_in InTables before) name ≡ true → IfSome change (Foretells (world_in InTables before) name f)
     → OnOk answer (Sets known knew name (IsNext (known_at known name) change)) → OnErr answer (knew ≡ known) → is_storage answer ≡ false
-    → OnOk answer (SettlesOn after (update_repo (world_in before) name f (repo_at (world_in before) name))) → (answer ≡ Err Memory → StaysSettled before after) → Knows knew (world_in after)
-follows_made known knew before after name f change (Ok v) knows there told sets kept sound made stays = follows known knew after (world_in before) name f change knows there told sets made.1
+    → OnOk answer (SettlesOn InTables after (update_repo (world_in InTables before) name f (repo_at (world_in InTables before) name))) → (answer ≡ Err Memory → StaysSettled InTables before after) → Knows knew (world_in InTables after)
+follows_made known knew before after name f change (Ok v) knows there told sets kept sound made stays = follows known knew after (world_in InTables before) name f change knows there told sets made.1
 follows_made known knew before after name f change (Err fault) knows there told sets kept sound made stays =
-    subst (λ k. Knows k (world_in after)) (sym kept) (unfollowed known before after fault knows sound stays)
+    subst (λ k. Knows k (world_in InTables after)) (sym kept) (unfollowed known before after fault knows sound stays)
 
 -- behind a write to a repository of which nothing is known any more
 pub forgotten : {S A : Type 0} (g : Ghosts S) (old new : Held S) (known knew : KnownUsages) (name : Text) (f : World → World) (answer : Result A Fault) → Lasts g old new → Sets known knew name (λ _. ⊥)
-    → ((w : World) (q : Text) → q ≢ name → repo_at (f w) q ≡ repo_at w q) → MakesWorld g old new answer f → StaysOnMemory g old new answer → IsKnown g old known → StaysKnown g old new knew answer
+    → ((w : World) (q : Text) → q ≢ name → repo_at (f w) q ≡ repo_at w q) → MakesWorld g InTables old new answer f → StaysOnMemory g InTables old new answer → IsKnown g old known → StaysKnown g old new knew answer
 forgotten g old new known knew name f answer wrote sets beside made memory knows clean is sound =
-    forgets known knew (state g old) (state g new) name f answer (knows (was_clean (state g old) (state g new) wrote clean)) sets (beside (world_in (state g old))) sound (made clean is) (memory clean is)
+    forgets known knew (state g old) (state g new) name f answer (knows (was_clean (state g old) (state g new) wrote clean)) sets (beside (world_in InTables (state g old))) sound (made clean is) (memory clean is)
 
 -- behind a session that was opened
 pub opened_known : {S : Type 0} (g : Ghosts S) (old new : Held S) (known knew : KnownUsages) (name : Text) (change : Change) (answer : Result ℕ Fault) → Lasts g old new
-    → ((w : World) → session_at w name (last_number_at w name + 1) ≡ None → Foretells w name opened change) → WorldHas g old (λ w. has_repo w name ≡ true)
+    → ((w : World) → session_at w name (last_number_at w name + 1) ≡ None → Foretells w name opened change) → WorldHas g InTables old (λ w. has_repo w name ≡ true)
     → OnOk answer (Sets known knew name (IsNext (known_at known name) (Some change))) → OnErr answer (knew ≡ known)
-    → (HasCleanDisk (state g new) → IsSettled (state g old) → IfOk answer (λ n. (n ≡ last_number_at (world_in (state g old)) name + 1) × SettlesOn (state g new) (open_session (world_in (state g old)) name)))
-    → StaysOnMemory g old new answer → IsKnown g old known → StaysKnown g old new knew answer
+    → (HasCleanDisk (state g new) → IsSettled InTables (state g old) → IfOk answer (λ n. (n ≡ last_number_at (world_in InTables (state g old)) name + 1) × SettlesOn InTables (state g new) (open_session (world_in InTables (state g old)) name)))
+    → StaysOnMemory g InTables old new answer → IsKnown g old known → StaysKnown g old new knew answer
 opened_known g old new known knew name change answer wrote foretold there sets kept opens memory knows clean is sound =
-    let w = world_in (state g old) in
+    let w = world_in InTables (state g old) in
     let early : HasCleanDisk (state g old) = was_clean (state g old) (state g new) wrote clean in
     let last = last_number_at w name in
-    let none : session_at w name (last + 1) ≡ None = no_session (held (state g old)) name (last + 1) last (registry (state g old) is) refl (omega arith) in
+    let none : session_at w name (last + 1) ≡ None = no_session (held InTables (state g old)) name (last + 1) last (registry (state g old) is) refl (omega arith) in
     follows_made known knew (state g old) (state g new) name opened (Some change) answer (knows early) (there early) (foretold w none) sets kept sound
-    (made (λ n. n ≡ last + 1) (SettlesOn (state g new) (open_session w name)) answer (opens clean is)) (memory clean is)
+    (made (λ n. n ≡ last + 1) (SettlesOn InTables (state g new) (open_session w name)) answer (opens clean is)) (memory clean is)
 
 -- behind one that became longer
 pub longer_known : {S A : Type 0} (g : Ghosts S) (old new : Held S) (known knew : KnownUsages) (name : Text) (number : ℕ) (bytes : Text) (change : Change) (answer : Result A Fault) → Lasts g old new
     → ((w : World) → is_some (session_at w name number) ≡ true → Foretells w name (λ r. appended r number (bytes_or_none (get r.sessions number) ++ bytes)) change)
-    → WorldHas g old (λ w. is_some (session_at w name number) ≡ true)
+    → WorldHas g InTables old (λ w. is_some (session_at w name number) ≡ true)
     → OnOk answer (Sets known knew name (IsNext (known_at known name) (Some change))) → OnErr answer (knew ≡ known)
-    → (WorldHas g old (λ w. is_some (session_at w name number) ≡ true) → MakesWorld g old new answer (λ w. append w name number bytes))
-    → StaysOnMemory g old new answer → IsKnown g old known → StaysKnown g old new knew answer
+    → (WorldHas g InTables old (λ w. is_some (session_at w name number) ≡ true) → MakesWorld g InTables old new answer (λ w. append w name number bytes))
+    → StaysOnMemory g InTables old new answer → IsKnown g old known → StaysKnown g old new knew answer
 longer_known g old new known knew name number bytes change answer wrote foretold is_open sets kept makes memory knows clean is sound =
-    let w = world_in (state g old) in
+    let w = world_in InTables (state g old) in
     let early : HasCleanDisk (state g old) = was_clean (state g old) (state g new) wrote clean in
     follows_made known knew (state g old) (state g new) name (λ (r : Repo). appended r number (bytes_or_none (get r.sessions number) ++ bytes)) (Some change) answer (knows early)
     (session_has_repo w name number (is_open early)) (foretold w (is_open early)) sets kept sound (makes is_open clean is) (memory clean is)
 
 module _ {S : Type 0} (g : Ghosts S) (old mid new : Held S) (told : Result (Option Change) Fault) (change : Option Change) (is_told : told ≡ Ok change)
-    (looked : Lasts g old mid) (stays : Stays g old mid told) (wrote : Lasts g mid new) where
+    (looked : Lasts g old mid) (stays : Stays g InTables old mid told) (wrote : Lasts g mid new) where
   pub lasts : Lasts g old new
   lasts = survives_all (state g old) (state g mid) (state g new) _ _ looked wrote
 
   -- the look-up changed nothing
-  pub looked_up : HasCleanDisk (state g new) → IsSettled (state g old) → StaysSettled (state g old) (state g mid)
+  pub looked_up : HasCleanDisk (state g new) → IsSettled InTables (state g old) → StaysSettled InTables (state g old) (state g mid)
   looked_up clean is = stays (was_clean (state g mid) (state g new) wrote clean) is (ap is_storage is_told)
 
-  has_then : (P : World → Type 0) → WorldHas g old P → IsSettled (state g old) → WorldHas g mid P
+  has_then : (P : World → Type 0) → WorldHas g InTables old P → IsSettled InTables (state g old) → WorldHas g InTables mid P
   has_then P has is clean =
-      later P (state g old) (state g mid) (stays clean is (ap is_storage is_told)).1 (has (was_clean (state g old) (state g mid) looked clean))
+      later InTables P (state g old) (state g mid) (stays clean is (ap is_storage is_told)).1 (has (was_clean (state g old) (state g mid) looked clean))
 
   module _ {A : Type 0} (answer : Result A Fault) where
     -- the write made its change of what was there before
-    pub made_then : (P : World → Type 0) (f : World → World) → (WorldHas g mid P → MakesWorld g mid new answer f) → WorldHas g old P → MakesWorld g old new answer f
+    pub made_then : (P : World → Type 0) (f : World → World) → (WorldHas g InTables mid P → MakesWorld g InTables mid new answer f) → WorldHas g InTables old P → MakesWorld g InTables old new answer f
     made_then P f made has clean is = by (looked_up clean is)
       where
-        by : StaysSettled (state g old) (state g mid) → OnOk answer (SettlesOn (state g new) (f (world_in (state g old))))
-        by same = earlier (λ w. OnOk answer (SettlesOn (state g new) (f w))) (state g old) (state g mid) same.1 (made (has_then P has is) clean same.0)
+        by : StaysSettled InTables (state g old) (state g mid) → OnOk answer (SettlesOn InTables (state g new) (f (world_in InTables (state g old))))
+        by same = earlier InTables (λ w. OnOk answer (SettlesOn InTables (state g new) (f w))) (state g old) (state g mid) same.1 (made (has_then P has is) clean same.0)
 
-    memory_then : StaysOnMemory g mid new answer → StaysOnMemory g old new answer
+    memory_then : StaysOnMemory g InTables mid new answer → StaysOnMemory g InTables old new answer
     memory_then memory clean is wanting = by (looked_up clean is)
       where
-        by : StaysSettled (state g old) (state g mid) → StaysSettled (state g old) (state g new)
+        by : StaysSettled InTables (state g old) (state g mid) → StaysSettled InTables (state g old) (state g new)
         by same = stays_then (state g old) (state g mid) (state g new) same (memory clean same.0 wanting)
 
-    pub memory_where : (P : World → Type 0) → (WorldHas g mid P → StaysOnMemory g mid new answer) → WorldHas g old P → StaysOnMemory g old new answer
+    pub memory_where : (P : World → Type 0) → (WorldHas g InTables mid P → StaysOnMemory g InTables mid new answer) → WorldHas g InTables old P → StaysOnMemory g InTables old new answer
     memory_where P memory has clean is wanting = memory_then (memory (has_then P has is)) clean is wanting
 
     -- and so does a crash
-    pub crash_where : (P : World → Type 0) (f : World → World) → (WorldHas g mid P → CrashLeaves g mid new answer f) → WorldHas g old P → CrashLeaves g old new answer f
+    pub crash_where : (P : World → Type 0) (f : World → World) → (WorldHas g InTables mid P → CrashLeaves g InTables mid new answer f) → WorldHas g InTables old P → CrashLeaves g InTables old new answer f
     crash_where P f crash has clean is = by (looked_up clean is)
       where
-        by : StaysSettled (state g old) (state g mid) → Leaves (state g old) (state g new) answer f
+        by : StaysSettled InTables (state g old) (state g mid) → Leaves (state g old) (state g new) answer f
         by same = crash_then g old new f mid answer same (crash (has_then P has is) clean same.0)
 
-    pub known_then : (known knew : KnownUsages) (name : Text) (f : World → Repo → Repo) → IsKnown g old known → WorldHas g old (λ w. has_repo w name ≡ true)
-        → Tells g old mid told (λ w change. IfSome change (Foretells w name (f w))) → OnOk answer (Sets known knew name (IsNext (known_at known name) change)) → OnErr answer (knew ≡ known)
-        → MakesWorld g old new answer (λ w. update_repo w name (f w) (repo_at w name)) → StaysOnMemory g old new answer → StaysKnown g old new knew answer
+    pub known_then : (known knew : KnownUsages) (name : Text) (f : World → Repo → Repo) → IsKnown g old known → WorldHas g InTables old (λ w. has_repo w name ≡ true)
+        → Tells g InTables old mid told (λ w change. IfSome change (Foretells w name (f w))) → OnOk answer (Sets known knew name (IsNext (known_at known name) change)) → OnErr answer (knew ≡ known)
+        → MakesWorld g InTables old new answer (λ w. update_repo w name (f w) (repo_at w name)) → StaysOnMemory g InTables old new answer → StaysKnown g old new knew answer
     known_then known knew name f knows there tells sets kept made memory clean is sound = by (was_clean (state g mid) (state g new) wrote clean)
       where
-        by : HasCleanDisk (state g mid) → Knows knew (world_in (state g new))
+        by : HasCleanDisk (state g mid) → Knows knew (world_in InTables (state g new))
         by then =
-            follows_made known knew (state g old) (state g new) name (f (world_in (state g old))) change answer (knows (was_clean (state g old) (state g mid) looked then))
-            (there (was_clean (state g old) (state g mid) looked then)) (subst (λ r. IfOk r (λ o. IfSome o (Foretells (world_in (state g old)) name (f (world_in (state g old)))))) is_told (tells then is)) sets kept sound (made clean is) (memory clean is)
+            follows_made known knew (state g old) (state g new) name (f (world_in InTables (state g old))) change answer (knows (was_clean (state g old) (state g mid) looked then))
+            (there (was_clean (state g old) (state g mid) looked then)) (subst (λ r. IfOk r (λ o. IfSome o (Foretells (world_in InTables (state g old)) name (f (world_in InTables (state g old)))))) is_told (tells then is)) sets kept sound (made clean is) (memory clean is)

@@ -18,6 +18,7 @@ use Rattle.registry_model.specs.Manifests.{kind_in}
 use Rattle.registry_model.specs.Command.{set_repo, with_quota}
 use Rattle.registry_model.specs.Lookups.{blob_at, manifest_at, tag_at, usage_at, no_usage}
 use Rattle.registry_model.proofs.TextOrder.{text_total, same_key}
+use Rattle.store_contents.specs.Layouts.{InTables}
 use Rattle.store_statements.specs.Held.{IsSettled, StaysSettled, SettlesOn, is_storage, world_in}
 use Rattle.store_reads.specs.declared.usage_change.Change.{Change}
 use Rattle.registry_store.specs.declared.known_usages.KnownUsages.{KnownUsages}
@@ -108,30 +109,30 @@ followed old new w name f change knows there told sets = by (repo_at w name) ref
 
 -- after a write that was foretold
 pub follows : (old new : KnownUsages) (s : State) (w : World) (name : Text) (f : Repo → Repo) (change : Option Change) → Knows old w → has_repo w name ≡ true
-    → IfSome change (Foretells w name f) → Sets old new name (IsNext (known_at old name) change) → world_in s ≡ update_repo w name f (repo_at w name) → Knows new (world_in s)
+    → IfSome change (Foretells w name f) → Sets old new name (IsNext (known_at old name) change) → world_in InTables s ≡ update_repo w name f (repo_at w name) → Knows new (world_in InTables s)
 follows old new s w name f change knows there told sets made = subst (Knows new) (sym made) (followed old new w name f change knows there told sets)
 
 -- a fault that is no failure of the storage
-pub unfollowed : {A : Type 0} (known : KnownUsages) (old new : State) (f : Fault) → Knows known (world_in old) → is_storage {A = A} (Err f) ≡ false
-    → (◌≡◌ {A = Result A Fault} (Err f) (Err Memory) → StaysSettled old new) → Knows known (world_in new)
-unfollowed known old new Memory knows sound stays = later (Knows known) old new (stays refl).1 knows
+pub unfollowed : {A : Type 0} (known : KnownUsages) (old new : State) (f : Fault) → Knows known (world_in InTables old) → is_storage {A = A} (Err f) ≡ false
+    → (◌≡◌ {A = Result A Fault} (Err f) (Err Memory) → StaysSettled InTables old new) → Knows known (world_in InTables new)
+unfollowed known old new Memory knows sound stays = later InTables (Knows known) old new (stays refl).1 knows
 unfollowed known old new Storage knows sound stays = absurd cc
 
 -- a write to a repository that was forgotten
-pub forgets : {A : Type 0} (old new : KnownUsages) (before after : State) (name : Text) (f : World → World) (answer : Result A Fault) → Knows old (world_in before) → Sets old new name (λ _. ⊥)
-    → ((q : Text) → q ≢ name → repo_at (f (world_in before)) q ≡ repo_at (world_in before) q) → is_storage answer ≡ false
-    → OnOk answer (SettlesOn after (f (world_in before))) → (answer ≡ Err Memory → StaysSettled before after) → Knows new (world_in after)
+pub forgets : {A : Type 0} (old new : KnownUsages) (before after : State) (name : Text) (f : World → World) (answer : Result A Fault) → Knows old (world_in InTables before) → Sets old new name (λ _. ⊥)
+    → ((q : Text) → q ≢ name → repo_at (f (world_in InTables before)) q ≡ repo_at (world_in InTables before) q) → is_storage answer ≡ false
+    → OnOk answer (SettlesOn InTables after (f (world_in InTables before))) → (answer ≡ Err Memory → StaysSettled InTables before after) → Knows new (world_in InTables after)
 forgets old new before after name f (Ok v) knows sets same sound made stays =
-    subst (Knows new) (sym made.1) (set_knows old new (world_in before) (f (world_in before)) name (λ _. ⊥) knows sets same (λ u none. absurd none))
+    subst (Knows new) (sym made.1) (set_knows old new (world_in InTables before) (f (world_in InTables before)) name (λ _. ⊥) knows sets same (λ u none. absurd none))
 forgets old new before after name f (Err Memory) knows sets same sound made stays =
-    later (Knows new) before after (stays refl).1 (set_knows old new (world_in before) (world_in before) name (λ _. ⊥) knows sets (λ q apart. refl) (λ u none. absurd none))
+    later InTables (Knows new) before after (stays refl).1 (set_knows old new (world_in InTables before) (world_in InTables before) name (λ _. ⊥) knows sets (λ q apart. refl) (λ u none. absurd none))
 forgets old new before after name f (Err Storage) knows sets same sound made stays = absurd cc
 
 -- a usage that was read is kept
-pub keeps : (old new : KnownUsages) (before after : State) (name : Text) (usage : Usage) → Knows old (world_in before) → Sets old new name (λ u. u ≡ usage) → usage ≡ usage_at (world_in before) name
-    → after.now ≡ before.now → Knows new (world_in after)
+pub keeps : (old new : KnownUsages) (before after : State) (name : Text) (usage : Usage) → Knows old (world_in InTables before) → Sets old new name (λ u. u ≡ usage) → usage ≡ usage_at (world_in InTables before) name
+    → after.now ≡ before.now → Knows new (world_in InTables after)
 keeps old new before after name usage knows sets is same =
-    later (Knows new) before after same (set_knows old new (world_in before) (world_in before) name (λ u. u ≡ usage) knows sets (λ q apart. refl) (λ u e. e ∙ is))
+    later InTables (Knows new) before after same (set_knows old new (world_in InTables before) (world_in InTables before) name (λ u. u ≡ usage) knows sets (λ q apart. refl) (λ u e. e ∙ is))
 
 -- ---- what is there is in a repository that is there
 
@@ -186,19 +187,19 @@ requoted old new w name quota knows sets =
     by u (Some v) was has = has ∙ ap (λ (x : Usage). record x { quota = quota }) (was v refl)
 
 -- after the write
-pub requotes : (old new : KnownUsages) (before after : State) (name : Text) (quota : ℕ) → Knows old (world_in before) → Sets old new name (HasQuota quota (known_at old name))
-    → world_in after ≡ set_repo (world_in before) name quota → Knows new (world_in after)
-requotes old new before after name quota knows sets made = subst (Knows new) (sym made) (requoted old new (world_in before) name quota knows sets)
+pub requotes : (old new : KnownUsages) (before after : State) (name : Text) (quota : ℕ) → Knows old (world_in InTables before) → Sets old new name (HasQuota quota (known_at old name))
+    → world_in InTables after ≡ set_repo (world_in InTables before) name quota → Knows new (world_in InTables after)
+requotes old new before after name quota knows sets made = subst (Knows new) (sym made) (requoted old new (world_in InTables before) name quota knows sets)
 
 -- ---- what holds of a store
 
 -- after a read
-pub still_knows : (known : KnownUsages) (old new : State) → StaysSettled old new → Knows known (world_in old) → IsSettled new × Knows known (world_in new)
-still_knows known old new stays knows = (stays.0, later (Knows known) old new stays.1 knows)
+pub still_knows : (known : KnownUsages) (old new : State) → StaysSettled InTables old new → Knows known (world_in InTables old) → IsSettled InTables new × Knows known (world_in InTables new)
+still_knows known old new stays knows = (stays.0, later InTables (Knows known) old new stays.1 knows)
 
 -- after a write to no repository
-pub untouched : {A : Type 0} (known : KnownUsages) (old new : State) (f : World → World) (answer : Result A Fault) → Knows known (world_in old) → Knows known (f (world_in old)) → is_storage answer ≡ false
-    → OnOk answer (SettlesOn new (f (world_in old))) → (answer ≡ Err Memory → StaysSettled old new) → Knows known (world_in new)
+pub untouched : {A : Type 0} (known : KnownUsages) (old new : State) (f : World → World) (answer : Result A Fault) → Knows known (world_in InTables old) → Knows known (f (world_in InTables old)) → is_storage answer ≡ false
+    → OnOk answer (SettlesOn InTables new (f (world_in InTables old))) → (answer ≡ Err Memory → StaysSettled InTables old new) → Knows known (world_in InTables new)
 untouched known old new f (Ok v) knows after sound made stays = subst (Knows known) (sym made.1) after
-untouched known old new f (Err Memory) knows after sound made stays = later (Knows known) old new (stays refl).1 knows
+untouched known old new f (Err Memory) knows after sound made stays = later InTables (Knows known) old new (stays refl).1 knows
 untouched known old new f (Err Storage) knows after sound made stays = absurd cc

@@ -6,6 +6,7 @@ use Rattle.sqlite.specs.State.{HasCleanDisk}
 use Rattle.sqlite.specs.Held.{Held, held_code, state}
 use Rattle.registry_model.specs.Keeping as keeping
 use Rattle.registry_model.specs.Keeping.{nothing_held}
+use Rattle.store_contents.specs.Layouts.{InTables}
 use Rattle.store_statements.specs.Held.{world_in}
 
 pub record Kept (S : Type 0) : Type 0 where
@@ -19,7 +20,7 @@ kept_code {S} store =
 
 -- what it shows of a registry
 abbrev pub shown : {S : Type 0} → Ghosts S → Kept S → keeping.Kept
-shown g k = record { world = world_in (state g k.conn); spent = k.spent; held = nothing_held }
+shown g k = record { world = world_in InTables (state g k.conn); spent = k.spent; held = nothing_held }
 
 -- the database was ours, and so far it has returned what was written
 abbrev pub IsHonest : {S : Type 0} → Ghosts S → Bool → Kept S → Type 0

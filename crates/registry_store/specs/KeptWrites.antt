@@ -7,6 +7,7 @@ use Rattle.oci_types.specs.declared.fault.Fault.{Fault}
 use Rattle.registry_model.specs.World.{World}
 use Rattle.registry_model.specs.Keeping.{Writes, WritesBy, Spends}
 use Rattle.registry_model.specs.Closing.{WritesWhereSo}
+use Rattle.store_contents.specs.Layouts.{InTables}
 use Rattle.store_statements.specs.Between.{Outcomes}
 use Rattle.store_statements.specs.Held.{SettlesOn, world_in}
 use Rattle.store_writes.specs.Whole.{ToldWhereSo}
@@ -15,15 +16,18 @@ use Rattle.registry_store.specs.Kept.{Kept, IsHonest, shown}
 -- A crash leaves the world as it was, or this of it; where it was done, this.
 abbrev pub Leaves : {A : Type 0} → sqlite.State → sqlite.State → Result A Fault → (World → World) → Type 0
 Leaves old new r f =
-    Outcomes old.now new (λ s. OnOk r (SettlesOn s (f (world_in old))))
-    (λ s. SettlesOn s (world_in old)) (λ s. SettlesOn s (f (world_in old)))
+    Outcomes old.now new (λ s. OnOk r (SettlesOn InTables s (f (world_in InTables old))))
+    (λ s. SettlesOn InTables s (world_in InTables old))
+    (λ s. SettlesOn InTables s (f (world_in InTables old)))
 
 -- A crash leaves the world as it was, or where this was so, that of it; as the answer says, if there is one.
 abbrev pub LeavesWhereSo : sqlite.State → sqlite.State → Result Bool Fault → (World → Bool) → (World → World)
     → Type 0
 LeavesWhereSo old new r so f =
-    Outcomes old.now new (λ s. IfOk r (λ done. ToldWhereSo done s (world_in old) (f (world_in old))))
-    (λ s. SettlesOn s (world_in old)) (λ s. (so (world_in old) ≡ true) × SettlesOn s (f (world_in old)))
+    Outcomes old.now new
+    (λ s. IfOk r (λ done. ToldWhereSo InTables done s (world_in InTables old) (f (world_in InTables old))))
+    (λ s. SettlesOn InTables s (world_in InTables old))
+    (λ s. (so (world_in InTables old) ≡ true) × SettlesOn InTables s (f (world_in InTables old)))
 
 -- What a keeper's write says. Of a store that is honest and was not spent, a crash at any moment of the call
 -- leaves no more than this; one that was spent is not touched.
@@ -38,7 +42,7 @@ pub record IsOneWrite {S : Type 0} (g : Ghosts S) (ours : Bool) (old new : Kept 
 module _ {S : Type 0} (g : Ghosts S) (ours : Bool) (old : Kept S) where
   -- what a write asks: this is so of the world, where the store is honest and not spent
   abbrev pub AsksOf : (World → Type 0) → Type 0
-  AsksOf P = IsHonest g ours old → old.spent ≡ false → P (world_in (state g old.conn))
+  AsksOf P = IsHonest g ours old → old.spent ≡ false → P (world_in InTables (state g old.conn))
 
   module _ (new : Kept S) where
     -- it leads to this world

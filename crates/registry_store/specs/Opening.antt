@@ -4,6 +4,7 @@ use Rattle.sqlite.specs.Effect.{Database, IsDatabase}
 use Rattle.sqlite.specs.Files.{HoldsDatabase, AreFoundIn}
 use Rattle.sqlite_wal.specs.Recovery.{Image}
 use Rattle.sqlite_trees.specs.Tree.{Trees}
+use Rattle.store_contents.specs.Layouts.{InTables}
 use Rattle.store_schema.specs.Schema.{no_schema}
 use Rattle.store_schema.specs.Making.{IsEmptyWith}
 use Rattle.store_statements.specs.World.{world_of}
@@ -28,5 +29,5 @@ WereOurs image = (db : Database) → IsDatabase db → MayFind image db.trees �
 -- that stand for the empty world
 abbrev pub OpensOn : Image → Database → Type 0
 OpensOn image now = (db : Database) × IsDatabase db × MayFind image db.trees
-    × (IsEmptyWith no_schema db → world_of (tables_in now) ≡ no_world)
+    × (IsEmptyWith no_schema db → world_of (tables_in InTables now) ≡ no_world)
     × (HoldsRegistry db → now ≡ db)

@@ -4,6 +4,7 @@ ghost use Rattle.oci_types.specs.Digest.{matches};
 ghost use Rattle.registry_model.specs.Limits.{largest_blob};
 ghost use Rattle.registry_model.specs.World.{has_repo};
 ghost use Rattle.registry_model.specs.Lookups.{put_blob};
+ghost use Rattle.store_contents.specs.Layouts.{InTables};
 ghost use Rattle.store_statements.specs.Between.{CrashLeaves, MakesWorld, StaysOnMemory};
 ghost use Rattle.store_statements.specs.Clauses.{Lasts, WorldHas};
 ghost use Rattle.registry_store.specs.Usages.{IsKnown, StaysKnown};
@@ -12,6 +13,7 @@ use crate::known_usages::KnownUsages;
 use oci_types::{Digest, Fault, RepoName};
 use sqlite::{Alter, Connection};
 use std::alloc::Global;
+use store_places::Source;
 use store_reads::put_change;
 
 /// Puts a blob in; a digest that is there keeps its bytes.
@@ -25,19 +27,19 @@ pub(crate) fn put_blob<S: Alter>(
 ) -> Result<(), Fault>
     requires matching { matches digest.now bytes.now ≡ true }
     requires fits { length bytes.now ≤ largest_blob }
-    ensures made { WorldHas S.Store conn.old (λ w. has_repo w repo.now ≡ true)
-        → MakesWorld S.Store conn.old conn.new result
+    ensures made { WorldHas S.Store InTables conn.old (λ w. has_repo w repo.now ≡ true)
+        → MakesWorld S.Store InTables conn.old conn.new result
         (λ w. put_blob w repo.now digest.now bytes.now) }
-    ensures memory { StaysOnMemory S.Store conn.old conn.new result }
-    ensures crash { WorldHas S.Store conn.old (λ w. has_repo w repo.now ≡ true)
-        → CrashLeaves S.Store conn.old conn.new result
+    ensures memory { StaysOnMemory S.Store InTables conn.old conn.new result }
+    ensures crash { WorldHas S.Store InTables conn.old (λ w. has_repo w repo.now ≡ true)
+        → CrashLeaves S.Store InTables conn.old conn.new result
         (λ w. put_blob w repo.now digest.now bytes.now) }
     ensures survives { Lasts S.Store conn.old conn.new }
     ensures known { IsKnown S.Store conn.old known.old
-        → WorldHas S.Store conn.old (λ w. has_repo w repo.now ≡ true)
+        → WorldHas S.Store InTables conn.old (λ w. has_repo w repo.now ≡ true)
         → StaysKnown S.Store conn.old conn.new known.new result }
 {
-    match store_writes::put_blob(alloc, conn, repo, digest, bytes) {
+    match store_writes::put_blob(alloc, conn, repo, digest, Source::Bytes(bytes)) {
         Ok(came) => {
             known.follow(repo, Some(put_change(came, bytes)));
             Ok(())

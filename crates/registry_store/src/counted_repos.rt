@@ -1,5 +1,6 @@
 //! Repositories that are made or get a quota, and that go, with what is known of usages.
 ghost use Rattle.registry_model.specs.Command.{set_repo, drop_repo};
+ghost use Rattle.store_contents.specs.Layouts.{InTables};
 ghost use Rattle.store_statements.specs.Between.{CrashLeaves, MakesWorld, StaysOnMemory};
 ghost use Rattle.store_statements.specs.Clauses.{Lasts};
 ghost use Rattle.registry_store.specs.Usages.{IsKnown, StaysKnown};
@@ -17,9 +18,11 @@ pub(crate) fn set_repo<S: Alter>(
     name: &RepoName,
     quota: Quota,
 ) -> Result<(), Fault>
-    ensures made { MakesWorld S.Store conn.old conn.new result (λ w. set_repo w name.now quota.bytes) }
-    ensures memory { StaysOnMemory S.Store conn.old conn.new result }
-    ensures crash { CrashLeaves S.Store conn.old conn.new result (λ w. set_repo w name.now quota.bytes) }
+    ensures made { MakesWorld S.Store InTables conn.old conn.new result
+        (λ w. set_repo w name.now quota.bytes) }
+    ensures memory { StaysOnMemory S.Store InTables conn.old conn.new result }
+    ensures crash { CrashLeaves S.Store InTables conn.old conn.new result
+        (λ w. set_repo w name.now quota.bytes) }
     ensures survives { Lasts S.Store conn.old conn.new }
     ensures known { IsKnown S.Store conn.old known.old
         → StaysKnown S.Store conn.old conn.new known.new result }
@@ -39,9 +42,9 @@ pub(crate) fn drop_repo<S: Alter>(
     known: &mut KnownUsages,
     name: &RepoName,
 ) -> Result<(), Fault>
-    ensures made { MakesWorld S.Store conn.old conn.new result (λ w. drop_repo w name.now) }
-    ensures memory { StaysOnMemory S.Store conn.old conn.new result }
-    ensures crash { CrashLeaves S.Store conn.old conn.new result (λ w. drop_repo w name.now) }
+    ensures made { MakesWorld S.Store InTables conn.old conn.new result (λ w. drop_repo w name.now) }
+    ensures memory { StaysOnMemory S.Store InTables conn.old conn.new result }
+    ensures crash { CrashLeaves S.Store InTables conn.old conn.new result (λ w. drop_repo w name.now) }
     ensures survives { Lasts S.Store conn.old conn.new }
     ensures known { IsKnown S.Store conn.old known.old
         → StaysKnown S.Store conn.old conn.new known.new result }

@@ -6,6 +6,7 @@ ghost use Rattle.sqlite.specs.Held.{state};
 ghost use Rattle.registry_model.specs.World.{has_repo};
 ghost use Rattle.registry_model.specs.Lookups.{append, last_number_at, open_session, session_at};
 ghost use Rattle.registry_model.specs.Closing.{session_matches, finish_as_is};
+ghost use Rattle.store_contents.specs.Layouts.{InTables};
 ghost use Rattle.store_statements.specs.Held.{IsSettled, SettlesOn, world_in};
 ghost use Rattle.store_statements.specs.Between.{CrashLeaves, MakesWorld, StaysOnMemory};
 ghost use Rattle.store_statements.specs.Clauses.{Lasts, WorldHas};
@@ -18,6 +19,7 @@ use crate::known_usages::KnownUsages;
 use oci_types::{Digest, Fault, RepoName};
 use sqlite::{Alter, Connection};
 use std::alloc::Global;
+use store_places::Source;
 use store_reads::{Change, NO_CHANGE, known_end_change};
 
 /// Opens an empty session under the number behind the repository's last, and answers it.
@@ -26,15 +28,16 @@ pub(crate) fn open_session<S: Alter>(
     known: &mut KnownUsages,
     repo: &RepoName,
 ) -> Result<u64, Fault>
-    ensures made { HasCleanDisk (state S.Store conn.new) → IsSettled (state S.Store conn.old)
+    ensures made { HasCleanDisk (state S.Store conn.new) → IsSettled InTables (state S.Store conn.old)
         → IfOk result
-        (λ n. (n ≡ last_number_at (world_in (state S.Store conn.old)) repo.now + 1) × SettlesOn
-        (state S.Store conn.new) (open_session (world_in (state S.Store conn.old)) repo.now)) }
-    ensures memory { StaysOnMemory S.Store conn.old conn.new result }
-    ensures crash { CrashLeaves S.Store conn.old conn.new result (λ w. open_session w repo.now) }
+        (λ n. (n ≡ last_number_at (world_in InTables (state S.Store conn.old)) repo.now + 1)
+        × SettlesOn InTables
+        (state S.Store conn.new) (open_session (world_in InTables (state S.Store conn.old)) repo.now)) }
+    ensures memory { StaysOnMemory S.Store InTables conn.old conn.new result }
+    ensures crash { CrashLeaves S.Store InTables conn.old conn.new result (λ w. open_session w repo.now) }
     ensures survives { Lasts S.Store conn.old conn.new }
     ensures known { IsKnown S.Store conn.old known.old
-        → WorldHas S.Store conn.old (λ w. has_repo w repo.now ≡ true)
+        → WorldHas S.Store InTables conn.old (λ w. has_repo w repo.now ≡ true)
         → StaysKnown S.Store conn.old conn.new known.new result }
 {
     let one_more = Change {
@@ -58,22 +61,22 @@ pub(crate) fn append<S: Alter>(
     hash: Option<[u8; 32]>,
 ) -> Result<(), Fault>
     requires hashed { IfSome hash (λ h. h ≡ sha256 bytes.now) }
-    ensures made { WorldHas S.Store conn.old (λ w. is_some (session_at w repo.now number) ≡ true)
-        → MakesWorld S.Store conn.old conn.new result (λ w. append w repo.now number bytes.now) }
-    ensures memory { StaysOnMemory S.Store conn.old conn.new result }
-    ensures crash { WorldHas S.Store conn.old (λ w. is_some (session_at w repo.now number) ≡ true)
-        → CrashLeaves S.Store conn.old conn.new result
+    ensures made { WorldHas S.Store InTables conn.old (λ w. is_some (session_at w repo.now number) ≡ true)
+        → MakesWorld S.Store InTables conn.old conn.new result (λ w. append w repo.now number bytes.now) }
+    ensures memory { StaysOnMemory S.Store InTables conn.old conn.new result }
+    ensures crash { WorldHas S.Store InTables conn.old (λ w. is_some (session_at w repo.now number) ≡ true)
+        → CrashLeaves S.Store InTables conn.old conn.new result
         (λ w. append w repo.now number bytes.now) }
     ensures survives { Lasts S.Store conn.old conn.new }
     ensures known { IsKnown S.Store conn.old known.old
-        → WorldHas S.Store conn.old (λ w. is_some (session_at w repo.now number) ≡ true)
+        → WorldHas S.Store InTables conn.old (λ w. is_some (session_at w repo.now number) ≡ true)
         → StaysKnown S.Store conn.old conn.new known.new result }
 {
     let longer = Change {
         added: bytes.len() as u64,
         ..NO_CHANGE
     };
-    let made = store_writes::append(alloc, conn, repo, number, bytes, hash);
+    let made = store_writes::append(alloc, conn, repo, number, Source::Bytes(bytes), hash);
     follow_made(known, repo, Some(longer), &made);
     made
 }
@@ -88,13 +91,13 @@ pub(crate) fn finish_known<S: Alter>(
     number: u64,
     digest: &Digest,
 ) -> Result<bool, Fault>
-    ensures made { HasCleanDisk (state S.Store conn.new) → IsSettled (state S.Store conn.old)
+    ensures made { HasCleanDisk (state S.Store conn.new) → IsSettled InTables (state S.Store conn.old)
         → IfOk result
-        (λ done. DoneWhereSo done (state S.Store conn.old) (state S.Store conn.new)
+        (λ done. DoneWhereSo InTables done (state S.Store conn.old) (state S.Store conn.new)
         (λ w. session_matches w repo.now number digest.now)
         (λ w. finish_as_is w repo.now number digest.now)) }
-    ensures memory { StaysOnMemory S.Store conn.old conn.new result }
-    ensures crash { HasCleanDisk (state S.Store conn.new) → IsSettled (state S.Store conn.old)
+    ensures memory { StaysOnMemory S.Store InTables conn.old conn.new result }
+    ensures crash { HasCleanDisk (state S.Store conn.new) → IsSettled InTables (state S.Store conn.old)
         → LeavesWhereSo (state S.Store conn.old) (state S.Store conn.new) result
         (λ w. session_matches w repo.now number digest.now)
         (λ w. finish_as_is w repo.now number digest.now) }

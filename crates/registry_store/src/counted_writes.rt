@@ -1,6 +1,7 @@
 //! Writes to what a repository holds, with what is known of usages.
 ghost use Rattle.std.specs.Prelude.{◌≡◌, true};
 ghost use Rattle.registry_model.specs.World.{has_repo};
+ghost use Rattle.store_contents.specs.Layouts.{InTables};
 ghost use Rattle.store_statements.specs.Between.{CrashLeaves, MakesWorld, StaysOnMemory};
 ghost use Rattle.store_statements.specs.Clauses.{Lasts, WorldHas};
 ghost use Rattle.registry_store.specs.Usages.{IsKnown, StaysKnown};
@@ -13,6 +14,7 @@ use crate::write::Write;
 use oci_types::{Fault, RepoName};
 use sqlite::{Alter, Connection};
 use std::alloc::Global;
+use store_places::Source;
 
 /// Makes a write to a repository.
 fn make<S: Alter>(
@@ -22,12 +24,12 @@ fn make<S: Alter>(
     write: Write<'_>,
 ) -> Result<(), Fault>
     requires fits { Fits write }
-    ensures made { WorldHas S.Store conn.old (Asks write.entry repo.now)
-        → MakesWorld S.Store conn.old conn.new result (makes write.entry repo.now) }
-    ensures memory { WorldHas S.Store conn.old (Asks write.entry repo.now)
-        → StaysOnMemory S.Store conn.old conn.new result }
-    ensures crash { WorldHas S.Store conn.old (Asks write.entry repo.now)
-        → CrashLeaves S.Store conn.old conn.new result (makes write.entry repo.now) }
+    ensures made { WorldHas S.Store InTables conn.old (Asks write.entry repo.now)
+        → MakesWorld S.Store InTables conn.old conn.new result (makes write.entry repo.now) }
+    ensures memory { WorldHas S.Store InTables conn.old (Asks write.entry repo.now)
+        → StaysOnMemory S.Store InTables conn.old conn.new result }
+    ensures crash { WorldHas S.Store InTables conn.old (Asks write.entry repo.now)
+        → CrashLeaves S.Store InTables conn.old conn.new result (makes write.entry repo.now) }
     ensures survives { Lasts S.Store conn.old conn.new }
 {
     match write {
@@ -37,12 +39,20 @@ fn make<S: Alter>(
             bytes,
             manifest,
             tag,
-        } => store_writes::put_manifest(alloc, conn, repo, digest, bytes, manifest, tag),
+        } => store_writes::put_manifest(
+            alloc,
+            conn,
+            repo,
+            digest,
+            Source::Bytes(bytes),
+            manifest,
+            tag,
+        ),
         Write::Finish {
             number,
             digest,
             bytes,
-        } => store_writes::finish(alloc, conn, repo, number, digest, bytes),
+        } => store_writes::finish(alloc, conn, repo, number, digest, Source::Bytes(bytes)),
         Write::DeleteBlob { digest } => store_writes::delete_blob(conn, repo, digest),
         Write::DeleteBlobs { digests } => store_writes::delete_blobs(conn, repo, digests),
         Write::DeleteManifest { digest } => store_writes::delete_manifest(conn, repo, digest),
@@ -60,16 +70,16 @@ pub(crate) fn make_counted<S: Alter>(
     write: Write<'_>,
 ) -> Result<(), Fault>
     requires fits { Fits write }
-    ensures made { WorldHas S.Store conn.old (Asks write.entry repo.now)
-        → MakesWorld S.Store conn.old conn.new result (makes write.entry repo.now) }
-    ensures memory { WorldHas S.Store conn.old (Asks write.entry repo.now)
-        → StaysOnMemory S.Store conn.old conn.new result }
-    ensures crash { WorldHas S.Store conn.old (Asks write.entry repo.now)
-        → CrashLeaves S.Store conn.old conn.new result (makes write.entry repo.now) }
+    ensures made { WorldHas S.Store InTables conn.old (Asks write.entry repo.now)
+        → MakesWorld S.Store InTables conn.old conn.new result (makes write.entry repo.now) }
+    ensures memory { WorldHas S.Store InTables conn.old (Asks write.entry repo.now)
+        → StaysOnMemory S.Store InTables conn.old conn.new result }
+    ensures crash { WorldHas S.Store InTables conn.old (Asks write.entry repo.now)
+        → CrashLeaves S.Store InTables conn.old conn.new result (makes write.entry repo.now) }
     ensures survives { Lasts S.Store conn.old conn.new }
     ensures known { IsKnown S.Store conn.old known.old
-        → WorldHas S.Store conn.old (Asks write.entry repo.now)
-        → WorldHas S.Store conn.old (λ w. has_repo w repo.now ≡ true)
+        → WorldHas S.Store InTables conn.old (Asks write.entry repo.now)
+        → WorldHas S.Store InTables conn.old (λ w. has_repo w repo.now ≡ true)
         → StaysKnown S.Store conn.old conn.new known.new result }
 {
     let Ok(change) = foretell(alloc, conn, known, repo, write) else {

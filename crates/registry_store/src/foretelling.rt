@@ -1,5 +1,6 @@
 //! What a write is going to change of a usage that is known, told before it.
 ghost use Rattle.std.specs.Prelude.{◌≡◌, None, IfSome, IfErr};
+ghost use Rattle.store_contents.specs.Layouts.{InTables};
 ghost use Rattle.store_statements.specs.Between.{Keeps, Stays, Tells};
 ghost use Rattle.store_statements.specs.Clauses.{Lasts};
 ghost use Rattle.store_reads.specs.Usages.{Foretells};
@@ -23,10 +24,10 @@ fn look_up<S: Alter>(
     repo: &RepoName,
     write: Write<'_>,
 ) -> Result<Option<Change>, Fault>
-    ensures found { Tells S.Store conn.old conn.new result
+    ensures found { Tells S.Store InTables conn.old conn.new result
         (λ w change. IfSome change (Foretells w repo.now (becomes write.entry repo.now w))) }
-    ensures settled { Stays S.Store conn.old conn.new result }
-    ensures kept { Keeps S.Store conn.old conn.new }
+    ensures settled { Stays S.Store InTables conn.old conn.new result }
+    ensures kept { Keeps S.Store InTables conn.old conn.new }
     ensures survives { Lasts S.Store conn.old conn.new }
 {
     match write {
@@ -59,11 +60,11 @@ pub(crate) fn foretell<S: Alter>(
     repo: &RepoName,
     write: Write<'_>,
 ) -> Result<Option<Change>, Fault>
-    ensures found { Tells S.Store conn.old conn.new result
+    ensures found { Tells S.Store InTables conn.old conn.new result
         (λ w change. IfSome change (Foretells w repo.now (becomes write.entry repo.now w))) }
     ensures unasked { known_at known.now repo.now ≡ None → conn.new ≡ conn.old }
-    ensures settled { Stays S.Store conn.old conn.new result }
-    ensures kept { Keeps S.Store conn.old conn.new }
+    ensures settled { Stays S.Store InTables conn.old conn.new result }
+    ensures kept { Keeps S.Store InTables conn.old conn.new }
     ensures survives { Lasts S.Store conn.old conn.new }
     ensures failing { IfErr result (λ fault. fault ≡ Fault.Storage) }
 {

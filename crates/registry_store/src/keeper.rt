@@ -13,6 +13,7 @@ ghost use Rattle.registry_model.specs.Limits.{largest, largest_blob, largest_man
 ghost use Rattle.registry_model.specs.Lookups.{append, blob_at, bytes_or_none, delete_blob, delete_manifest, delete_tag, finish, last_number_at, manifest_at, mount, open_session, put_blob, put_manifest, session_at, sessions_open_at, tag_at};
 ghost use Rattle.registry_model.specs.Pruning.{delete_blobs};
 ghost use Rattle.registry_model.specs.World.{is_known, has_repo, level_at};
+ghost use Rattle.store_contents.specs.Layouts.{InTables};
 ghost use Rattle.store_statements.specs.Held.{held, world_in};
 ghost use Rattle.store_writes.specs.Naming.{is_named};
 ghost use Rattle.registry_store.specs.Kept.{IsHonest};
@@ -71,7 +72,7 @@ macro_rules! counted {
 
 impl<S: Alter, O: Origin> Keeper for Store<S, O> {
     ghost kept = { λ s. record {
-      world = world_in (state S.Store s.conn);
+      world = world_in InTables (state S.Store s.conn);
       spent = s.spent;
       held = nothing_held;
     } };
@@ -381,9 +382,9 @@ impl<S: Alter, O: Origin> Keeper for Store<S, O> {
         ensures once { WritesOnce S.Store O.is_ours self.old self.new result (λ w. w) }
         ensures freed { IsHonest S.Store O.is_ours self.new
             → OnOk result
-            ((id : ℤ) → (held (state S.Store self.new.conn)).contents id
-            ≡ (if is_named (held (state S.Store self.old.conn)) id
-            then (held (state S.Store self.old.conn)).contents id else None)) }
+            ((id : ℤ) → (held InTables (state S.Store self.new.conn)).contents id
+            ≡ (if is_named (held InTables (state S.Store self.old.conn)) id
+            then (held InTables (state S.Store self.old.conn)).contents id else None)) }
     {
         unless_spent!(self, store_writes::clear(self.alloc, &mut self.conn))
     }

@@ -5,6 +5,7 @@ ghost use Rattle.sqlite.specs.Held.{state};
 ghost use Rattle.sqlite.specs.Steps.{over_memory};
 ghost use Rattle.sqlite.specs.Files.{file_state};
 ghost use Rattle.sqlite.specs.WalFiles.{image_at};
+ghost use Rattle.store_contents.specs.Layouts.{InTables};
 ghost use Rattle.store_schema.specs.Schema.{no_schema};
 ghost use Rattle.store_schema.specs.Making.{IsEmptyWith};
 ghost use Rattle.store_schema.specs.Beside.{AreFree, registry_names};
@@ -40,6 +41,7 @@ impl<S: Alter, O: Origin> Model for Store<S, O> {
     ghost use Rattle.sqlite.specs.Held.{state};
     ghost use Rattle.registry_store.specs.Kept.{Kept, kept_code};
     ghost use Rattle.registry_store.specs.Usages.{Knows};
+    ghost use Rattle.store_contents.specs.Layouts.{InTables};
     ghost use Rattle.store_statements.specs.Held.{IsSettled, world_in};
 
     ghost Value = { Kept S };
@@ -49,13 +51,14 @@ impl<S: Alter, O: Origin> Model for Store<S, O> {
     ghost view = { λ s. record { conn = s.conn; spent = s.spent } };
 
     ghost invariant = { λ s. s.spent ≡ false → O.is_ours ≡ true → HasCleanDisk (state S.Store s.conn)
-        → IsSettled (state S.Store s.conn) × Knows s.known (world_in (state S.Store s.conn)) };
+        → IsSettled InTables (state S.Store s.conn)
+        × Knows s.known (world_in InTables (state S.Store s.conn)) };
 }
 
 impl Store<MemStore> {
     /// A registry in memory, without repositories and grants. Its refusal is want of memory or a failure.
     pub fn memory(alloc: Global) -> Result<Store<MemStore>, OpenFault>
-        ensures empty { IfOk result (λ s. world_in (state over_memory s.conn) ≡ no_world) }
+        ensures empty { IfOk result (λ s. world_in InTables (state over_memory s.conn) ≡ no_world) }
         ensures unspent { IfOk result (λ s. s.spent ≡ false) }
         ensures wanting { IfErr result IsWanting }
     {
@@ -84,7 +87,7 @@ impl<S: Alter, O: Origin> Store<S, O> {
             → IsIdle (state S.Store conn) × IsOurs (state S.Store conn).now }
         ensures made { IfOk result
             (λ s. HasCleanDisk (state S.Store s.conn) → IsEmptyWith no_schema (state S.Store conn).now
-            → world_in (state S.Store s.conn) ≡ no_world) }
+            → world_in InTables (state S.Store s.conn) ≡ no_world) }
         ensures found { IfOk result
             (λ s. HasCleanDisk (state S.Store s.conn) → IsIdle (state S.Store conn)
             → HoldsRegistry (state S.Store conn).now
@@ -99,7 +102,7 @@ impl<S: Alter, O: Origin> Store<S, O> {
             → has_version_table (state S.Store conn).now.schema ≡ true
             → IsOfSchema (state S.Store conn) (pos 2)) }
         ensures two { IfOk result
-            (λ s. HasCleanDisk (state S.Store s.conn) → HoldsTables (state S.Store conn).now
+            (λ s. HasCleanDisk (state S.Store s.conn) → HoldsTables InTables (state S.Store conn).now
             → SaysTwo (state S.Store conn).now) }
         ensures unspent { IfOk result (λ s. s.spent ≡ false) }
         ensures survives { IfOk result (λ s. Survives (state S.Store conn) (state S.Store s.conn) (λ _. ⊤)) }
@@ -116,11 +119,11 @@ impl<S: Alter, O: Origin> Store<S, O> {
             (λ e. HasCleanDisk (state S.Store e.1) → HoldsRegistry (state S.Store conn).now
             → IsWanting e.0) }
         ensures other { IfErr result
-            (λ e. HasCleanDisk (state S.Store e.1) → HoldsTables (state S.Store conn).now
+            (λ e. HasCleanDisk (state S.Store e.1) → HoldsTables InTables (state S.Store conn).now
             → (n : ℤ) → ShowsAlone (versions_in (state S.Store conn).now) n → n ≢ pos 2
             → IsWantingOr (OpenFault.Schema n) e.0) }
         ensures unsaid { IfErr result
-            (λ e. HasCleanDisk (state S.Store e.1) → HoldsTables (state S.Store conn).now
+            (λ e. HasCleanDisk (state S.Store e.1) → HoldsTables InTables (state S.Store conn).now
             → ((n : ℤ) → ShowsAlone (versions_in (state S.Store conn).now) n → ⊥)
             → IsWantingOr OpenFault.NotARegistry e.0) }
         ensures unmarked { IfErr result
@@ -147,7 +150,7 @@ impl<S: Alter, O: Origin> Store<S, O> {
     pub fn into_connection(self) -> Connection<S>
         ensures same { result ≡ self.conn }
         ensures settled { self.spent ≡ false → O.is_ours ≡ true → HasCleanDisk (state S.Store result)
-            → IsSettled (state S.Store result) }
+            → IsSettled InTables (state S.Store result) }
     {
         self.conn
     }
@@ -163,7 +166,7 @@ impl<D: Disk + Drop> Store<FileStore<D>> {
             → IsIdle (file_state conn) × IsOurs (file_state conn).now }
         ensures made { IfOk result
             (λ s. HasCleanDisk (file_state s.conn) → IsEmptyWith no_schema (file_state conn).now
-            → world_in (file_state s.conn) ≡ no_world) }
+            → world_in InTables (file_state s.conn) ≡ no_world) }
         ensures found { IfOk result
             (λ s. HasCleanDisk (file_state s.conn) → IsIdle (file_state conn)
             → HoldsRegistry (file_state conn).now

@@ -9,3 +9,6 @@ pub mod ReadLemmas
 pub mod ListingLemmas
 pub mod ToldLemmas
 pub mod Lasting
+pub mod LayoutLemmas
+pub mod Sorting
+pub mod Numbers

@@ -4,3 +4,7 @@ pub mod Search
 pub mod Hashed
 pub mod Linked
 pub mod Read
+pub mod PlaceTables
+pub mod PlaceTexts
+pub mod Places
+pub mod Layouts

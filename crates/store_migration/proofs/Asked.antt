@@ -13,6 +13,7 @@ use Rattle.sqlite_schema.specs.Names.{same_name}
 use Rattle.sqlite_tied.specs.Compute.{everything}
 use Rattle.store_schema.specs.OldSchema.{old_schema}
 use Rattle.store_schema.specs.Beside.{AreFree, names_of_two}
+use Rattle.store_contents.specs.Layouts.{InTables}
 use Rattle.store_statements.specs.Held.{SettlesOn, IsBack, LeavesAsWas}
 use Rattle.store_opening.specs.declared.opening.OpenFault.{OpenFault}
 use Rattle.store_opening.specs.declared.opening.OpenFault.TheVariants.{Memory, Storage, NotARegistry, Schema as Numbered}
@@ -123,8 +124,8 @@ idle_read old mid idle u = record { is_open = u.0.is_open; autocommit = u.0.mode
 
 -- what is then done is done to what was there
 module _ (old mid new : State) (u : IsUnchanged old mid) where
-  pub settles_read : HoldsOldRegistry old.now → (HoldsOldRegistry mid.now → SettlesOn new (old_world_in mid.now)) → SettlesOn new (old_world_in old.now)
-  settles_read holds done = subst (λ (d : Database). SettlesOn new (old_world_in d)) u.0.now_is (done (old_read old mid u holds))
+  pub settles_read : HoldsOldRegistry old.now → (HoldsOldRegistry mid.now → SettlesOn InTables new (old_world_in mid.now)) → SettlesOn InTables new (old_world_in old.now)
+  settles_read holds done = subst (λ (d : Database). SettlesOn InTables new (old_world_in d)) u.0.now_is (done (old_read old mid u holds))
 
   pub counts_read : (m : MovedRows) → HoldsOldRegistry old.now → (HoldsOldRegistry mid.now → m ≡ counts (olds_in mid.now)) → Some m ≡ Some (counts (olds_in old.now))
   counts_read m holds done = ap Some (done (old_read old mid u holds) ∙ ap (λ (d : Database). counts (olds_in d)) u.0.now_is)

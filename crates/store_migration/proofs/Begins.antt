@@ -15,6 +15,7 @@ use Rattle.store_schema.specs.Rows.{bytes_at, HaveIds}
 use Rattle.store_schema.specs.Layout.{tree_of, rows_of}
 use Rattle.store_schema.specs.Beside.{Comes, IsNewBeside, names_of_two, tables_of_two}
 use Rattle.store_contents.specs.Contents.{AreContentRows, AreApart, content_rows}
+use Rattle.store_contents.specs.Layouts.{InTables}
 use Rattle.store_statements.specs.Tables.{AreTables}
 use Rattle.store_statements.specs.Known.{KnowsRegistry, trees_of, rows_beside}
 use Rattle.store_statements.specs.Held.{HoldsTables, tables_in, beside_in}
@@ -83,13 +84,16 @@ module _ (old new : Database) (is : HoldsOldRegistry old) (both : new.schema ≡
   no_contents : content_rows new ≡ []
   no_contents = none_in contents_table comes.made.0
 
-  tables_are : tables_in new ≡ record (emptied (tables_in old)) { beside = beside_in new }
+  tables_are : tables_in InTables new ≡ record (emptied (tables_in InTables old)) { beside = beside_in new }
   tables_are = λ i. record {
+    number = 2;
     version = same_rows version_table 0 version_stays kept.0 i;
     repos = same_rows repos_table 1 repos_stay kept.1.0 i;
     grants = same_rows grants_table 3 grants_stay kept.1.1.0 i;
     tags = same_rows tags_table 5 tags_stay kept.1.1.1.0 i;
     contents = λ id. option_map (λ r. bytes_at r 4) (find (has_rowid id) (no_contents i));
+    places = [];
+    packs = [];
     blobs = none_in blob_links_table comes.made.1.0 i;
     manifests = none_in manifest_links_table comes.made.1.1.0 i;
     uploads = none_in uploads_table comes.made.1.1.1.0 i;
@@ -101,7 +105,7 @@ module _ (old new : Database) (is : HoldsOldRegistry old) (both : new.schema ≡
       ≡ new.trees (tree_of both_schema old_blobs_table) ∷ new.trees (tree_of both_schema old_manifests_table) ∷ new.trees (tree_of both_schema old_sessions_table) ∷ []
   beside_rows = ap (λ (s : Schema). rows_beside new.trees (trees_of s) s.tables) both ∙ knows_old.beside new.trees
 
-  pub olds_are : old_of (tables_in new) ≡ olds_in old
+  pub olds_are : old_of (tables_in InTables new) ≡ olds_in old
   olds_are =
       ap (λ (rows : List (List Row)). olds_of (record { schema = new.schema; rows = rows })) beside_rows
       ∙ (λ i. record {
@@ -112,7 +116,7 @@ module _ (old new : Database) (is : HoldsOldRegistry old) (both : new.schema ≡
 
   -- ---- so they are as they are while rows are moved
 
-  are_tables : AreTables (record (emptied (tables_in old)) { beside = beside_in new })
+  are_tables : AreTables (record (emptied (tables_in InTables old)) { beside = beside_in new })
   are_tables = record {
     repos = is.registry.repos;
     grants = is.registry.grants;
@@ -123,11 +127,11 @@ module _ (old new : Database) (is : HoldsOldRegistry old) (both : new.schema ≡
     pieces = record { types = tt; apart = tt; ids = (tt, tt) };
   }
 
-  pub begin_holding : HoldsTables new
+  pub begin_holding : HoldsTables InTables new
   begin_holding = record {
-    known = subst KnowsRegistry (sym both) knows_registry;
+    known = subst (KnowsRegistry InTables) (sym both) knows_registry;
     contents = record {
-      known = (subst KnowsRegistry (sym both) knows_registry).contents;
+      known = (subst (KnowsRegistry InTables) (sym both) knows_registry).contents;
       rows = subst AreContentRows (sym no_contents) tt;
       apart = subst AreApart (sym no_contents) tt;
       ids = subst HaveIds (sym no_contents) (tt, tt);
@@ -135,20 +139,20 @@ module _ (old new : Database) (is : HoldsOldRegistry old) (both : new.schema ≡
     tables = subst AreTables (sym tables_are) are_tables;
   }
 
-  begin_both : AreBoth (old_of (tables_in new)) (tables_in new)
+  begin_both : AreBoth (old_of (tables_in InTables new)) (tables_in InTables new)
   begin_both =
-      subst (λ (olds : OldTables). AreBoth olds (tables_in new)) (sym olds_are)
-      (subst (AreBoth (olds_in old)) (sym tables_are) (beside_free (olds_in old) (emptied (tables_in old)) (beside_in new) (both_begin (olds_in old) (tables_in old) is.registry)))
+      subst (λ (olds : OldTables). AreBoth olds (tables_in InTables new)) (sym olds_are)
+      (subst (AreBoth (olds_in old)) (sym tables_are) (beside_free (olds_in old) (emptied (tables_in InTables old)) (beside_in new) (both_begin (olds_in old) (tables_in InTables old) is.registry)))
 
-  begin_olds : HasOlds (tables_in new)
+  begin_olds : HasOlds (tables_in InTables new)
   begin_olds = record {
     known = subst KnowsOld (sym both) knows_old;
     version = subst HaveIds (sym (same_rows version_table 0 version_stays kept.0)) is.version;
     rows = subst AreOldRows (sym olds_are) (record { blobs = is.registry.olds.blobs; manifests = is.registry.olds.manifests; sessions = is.registry.olds.sessions });
   }
 
-  pub begin_underway : IsUnderway (tables_in new)
+  pub begin_underway : IsUnderway (tables_in InTables new)
   begin_underway = record { olds = begin_olds; both = begin_both }
 
-  pub begin_world : world_of_both (old_of (tables_in new)) (tables_in new) ≡ old_world_in old
-  begin_world = ap₂ world_of_both olds_are tables_are ∙ world_begins (olds_in old) (tables_in old)
+  pub begin_world : world_of_both (old_of (tables_in InTables new)) (tables_in InTables new) ≡ old_world_in old
+  begin_world = ap₂ world_of_both olds_are tables_are ∙ world_begins (olds_in old) (tables_in InTables old)

@@ -6,6 +6,7 @@ use Rattle.sqlite.specs.Effect.{Database}
 use Rattle.sqlite.specs.State.{State, IsUnchanged}
 use Rattle.oci_types.specs.Text.{Text}
 use Rattle.store_schema.specs.Rows.{bytes_at}
+use Rattle.store_contents.specs.Layouts.{InTables}
 use Rattle.store_statements.specs.Keys.{has_key, same_key}
 use Rattle.store_statements.specs.Tables.{Tables}
 use Rattle.store_statements.specs.Changes.{blob_columns, Comes, Grow}
@@ -30,12 +31,13 @@ blob_fresh old mid name digest bytes id kept fresh = ap (λ (t : Tables). find (
 stored : (old mid new : Tables) (id : Rattle.std.proofs.Common.ℤ) (name digest bytes : Text) → ContentKept old mid id bytes → Comes mid.blobs new.blobs (blob_columns name digest (length bytes) id) → new ≡ record mid { blobs = new.blobs } → BlobStored old new name digest bytes
 stored old mid new id name digest bytes kept comes others =
     let same : new.contents ≡ mid.contents = ap (λ (t : Tables). t.contents) others in
+    let placed : new.places ≡ mid.places = ap (λ (t : Tables). t.places) others in
     record {
       id = id;
       grow = subst (Grow old.contents) (sym same) kept.grow;
       there = ap (λ contents. contents id) same ∙ kept.there;
       comes = subst (λ rows. Comes rows new.blobs (blob_columns name digest (length bytes) id)) (ap (λ (t : Tables). t.blobs) kept.others) comes;
-      others = others ∙ ap (λ (t : Tables). record t { blobs = new.blobs }) kept.others ∙ ap (λ contents. record old { contents = contents; blobs = new.blobs }) (sym same);
+      others = others ∙ ap (λ (t : Tables). record t { blobs = new.blobs }) kept.others ∙ (λ i. record old { contents = sym same i; places = sym placed i; blobs = new.blobs });
     }
 
 -- ---- under the key of an old row
@@ -54,8 +56,8 @@ free_after t m name digest bytes id under found kept = blob_fresh t m name diges
 olds_after : (t w : Tables) (name digest bytes : Text) → IsUnderway t → BlobStored t w name digest bytes → HasOlds w
 olds_after t w name digest bytes under s = olds_kept t w under.olds (ap (λ (x : Tables). x.beside) s.others) (ap (λ (x : Tables). x.version) s.others)
 
-moves : (t w u : Tables) (name digest bytes : Text) → IsUnderway t → Found t name digest bytes → BlobStored t w name digest bytes → u ≡ with_olds w (without_blob name digest (old_of w)) → Moves (without_blob name digest) t u
-moves t w u name digest bytes under found s is = subst (Moves (without_blob name digest) t) (sym same) (record {
+moves : (t w u : Tables) (name digest bytes : Text) → IsUnderway t → Found t name digest bytes → BlobStored t w name digest bytes → w.places ≡ t.places → u ≡ with_olds w (without_blob name digest (old_of w)) → Moves (without_blob name digest) t u
+moves t w u name digest bytes under found s placed is = subst (Moves (without_blob name digest) t) (sym same) (record {
   underway = record { olds = olds; both = law.1 };
   world = law.0;
   left = refl;
@@ -68,7 +70,7 @@ moves t w u name digest bytes under found s is = subst (Moves (without_blob name
     target = with_olds (record t { contents = w.contents; blobs = w.blobs }) less
 
     same : u ≡ target
-    same = is ∙ ap (λ (x : Tables). with_olds x (without_blob name digest (old_of x))) s.others
+    same = is ∙ ap (λ (x : Tables). with_olds x (without_blob name digest (old_of x))) s.others ∙ (λ i. with_olds (record t { contents = w.contents; places = placed i; blobs = w.blobs }) less)
 
     moved : BlobMoved (old_of t) less t target
     moved = record { name = name; digest = digest; bytes = bytes; there = found; id = s.id; grow = s.grow; held = s.there; comes = s.comes; others = refl; gone = refl }
@@ -87,30 +89,30 @@ moves t w u name digest bytes under found s is = subst (Moves (without_blob name
       };
     }
 
-moved_if : {A E : Type 0} (old mid new : State) (name digest bytes : Text) (r : Result A E) → IsUnderway (held old) → Found (held old) name digest bytes → BlobStored (held old) (held mid) name digest bytes
-    → OnOk r (Becomes new (with_olds (held mid) (without_blob name digest (old_of (held mid))))) → OnOk r (IsReady new × Moves (without_blob name digest) (held old) (held new))
-moved_if old mid new name digest bytes (Ok x) under found s h = (h.0, moves (held old) (held mid) (held new) name digest bytes under found s h.1)
+moved_if : {A E : Type 0} (old mid new : State) (name digest bytes : Text) (r : Result A E) → IsUnderway (held InTables old) → Found (held InTables old) name digest bytes → BlobStored (held InTables old) (held InTables mid) name digest bytes
+    → OnOk r (Becomes InTables new (with_olds (held InTables mid) (without_blob name digest (old_of (held InTables mid))))) → OnOk r (IsReady InTables new × Moves (without_blob name digest) (held InTables old) (held InTables new))
+moved_if old mid new name digest bytes (Ok x) under found s h = (h.0, moves (held InTables old) (held InTables mid) (held InTables new) name digest bytes under found s refl h.1)
 moved_if old mid new name digest bytes (Err e) under found s h = tt
 
 -- its content is kept, it comes, and the row goes
-pub moved_then : {A E : Type 0} (old mid late new : State) (id : Rattle.std.proofs.Common.ℤ) (name digest bytes : Text) (r : Result A E) → IsUnderway (held old) → Found (held old) name digest bytes → ContentKept (held old) (held mid) id bytes → BlobComes mid late (blob_columns name digest (length bytes) id)
-    → (IsReady late → HasOlds (held late) → OnOk r (Becomes new (with_olds (held late) (without_blob name digest (old_of (held late)))))) → OnOk r (IsReady new × Moves (without_blob name digest) (held old) (held new))
+pub moved_then : {A E : Type 0} (old mid late new : State) (id : Rattle.std.proofs.Common.ℤ) (name digest bytes : Text) (r : Result A E) → IsUnderway (held InTables old) → Found (held InTables old) name digest bytes → ContentKept (held InTables old) (held InTables mid) id bytes → BlobComes InTables mid late (blob_columns name digest (length bytes) id)
+    → (IsReady InTables late → HasOlds (held InTables late) → OnOk r (Becomes InTables new (with_olds (held InTables late) (without_blob name digest (old_of (held InTables late)))))) → OnOk r (IsReady InTables new × Moves (without_blob name digest) (held InTables old) (held InTables new))
 moved_then old mid late new id name digest bytes r under found kept comes take =
-    let s : BlobStored (held old) (held late) name digest bytes = stored (held old) (held mid) (held late) id name digest bytes kept comes.comes comes.others in
-    moved_if old late new name digest bytes r under found s (take comes.ready (olds_after (held old) (held late) name digest bytes under s))
+    let s : BlobStored (held InTables old) (held InTables late) name digest bytes = stored (held InTables old) (held InTables mid) (held InTables late) id name digest bytes kept comes.comes comes.others in
+    moved_if old late new name digest bytes r under found s (take comes.ready (olds_after (held InTables old) (held InTables late) name digest bytes under s))
 
 -- ---- as its bytes were read
 
-pub found_read : (old mid : State) (name digest bytes : Text) → IsUnchanged old mid → Found (held old) name digest bytes → Found (held mid) name digest bytes
-found_read old mid name digest bytes u found = subst (λ (d : Database). Found (tables_in d) name digest bytes) (sym u.0.now_is) found
+pub found_read : (old mid : State) (name digest bytes : Text) → IsUnchanged old mid → Found (held InTables old) name digest bytes → Found (held InTables mid) name digest bytes
+found_read old mid name digest bytes u found = subst (λ (d : Database). Found (tables_in InTables d) name digest bytes) (sym u.0.now_is) found
 
 -- the key has no row
-pub not_there : (old new : State) (name digest : Text) → IsReady old → IsUnderway (held old) → IsUnchanged old new → None ≡ option_map (λ r. bytes_at r 4) (find (has_key name digest) (old_of (held old)).blobs) → IsReady new × Moves (without_blob name digest) (held old) (held new)
+pub not_there : (old new : State) (name digest : Text) → IsReady InTables old → IsUnderway (held InTables old) → IsUnchanged old new → None ≡ option_map (λ r. bytes_at r 4) (find (has_key name digest) (old_of (held InTables old)).blobs) → IsReady InTables new × Moves (without_blob name digest) (held InTables old) (held InTables new)
 not_there old new name digest is under u none = (
   ready_read old new is u,
-  subst (λ (d : Database). Moves (without_blob name digest) (held old) (tables_in d)) (sym u.0.now_is) (record {
+  subst (λ (d : Database). Moves (without_blob name digest) (held InTables old) (tables_in InTables d)) (sym u.0.now_is) (record {
     underway = under;
     world = refl;
-    left = sym (ap (λ (rows : List Row). record (old_of (held old)) { blobs = rows }) (gone_stays (has_key name digest) (old_of (held old)).blobs (none_of (λ r. bytes_at r 4) (find (has_key name digest) (old_of (held old)).blobs) none)));
+    left = sym (ap (λ (rows : List Row). record (old_of (held InTables old)) { blobs = rows }) (gone_stays (has_key name digest) (old_of (held InTables old)).blobs (none_of (λ r. bytes_at r 4) (find (has_key name digest) (old_of (held InTables old)).blobs) none)));
   }),
 )

@@ -13,6 +13,7 @@ use Rattle.store_schema.specs.Schema.{to_repos}
 use Rattle.store_schema.specs.OldSchema.{both_schema, old_blobs_table, old_manifests_table, old_sessions_table}
 use Rattle.store_schema.specs.Layout.{tree_of}
 use Rattle.store_contents.specs.Contents.{KnowsContents}
+use Rattle.store_contents.specs.Layouts.{InTables}
 use Rattle.store_statements.specs.Known.{KnowsRegistry, KnowsChildren, NamesRepo, repo_key, IsStill, AreApart, trees_of, is_beside, rows_beside}
 use Rattle.store_migration.specs.Olds.{KnowsOld, old_trees}
 use Rattle.store_migration.proofs.Both as both
@@ -82,9 +83,10 @@ still tree x y = refl
 knows_contents : KnowsContents both_schema
 knows_contents = record { stands = both.contents_stand; alone = both.contents_alone; texts = texts.content_texts }
 
-pub knows_registry : KnowsRegistry both_schema
+pub knows_registry : KnowsRegistry InTables both_schema
 knows_registry = record {
   contents = knows_contents;
+  further = tt;
   repos = both.repos_stand;
   grants = both.grants_stand;
   tags = both.tags_stand;

@@ -81,7 +81,7 @@ module _ (old : OldTables) (t : Tables) (contents : ℤ → Option Text) (both :
   both_grown = record {
     version = both.version;
     olds = both.olds;
-    news = λ version beside two none. (contents_grown (record t { version = version; beside = beside }) contents (both.news version beside two none) grow).1;
+    news = λ version beside two none. (contents_grown (record t { version = version; beside = beside }) contents t.places (both.news version beside two none) grow).1;
     blobs = both.blobs;
     manifests = both.manifests;
     sessions = both.sessions;

@@ -10,6 +10,7 @@ use Rattle.sqlite.specs.Held.{Held, state}
 use Rattle.registry_model.specs.World.{World}
 use Rattle.store_schema.specs.OldSchema.{old_blobs_table, old_manifests_table, old_sessions_table}
 use Rattle.store_schema.specs.Layout.{tree_of}
+use Rattle.store_contents.specs.Layouts.{InTables}
 use Rattle.store_statements.specs.Tables.{Tables, IsEmptyBeside}
 use Rattle.store_statements.specs.Changes.{changed}
 use Rattle.store_statements.specs.Known.{trees_of, rows_beside}
@@ -31,7 +32,7 @@ use Rattle.store_migration.specs.declared.rewrite.MovedRows.{MovedRows}
 use Rattle.store_migration.specs.Rewriting.{StandsFor, Rewrites, counts}
 
 -- the further tables are the three, and they are empty
-none_beside : (db : Database) → KnowsOld db.schema → old_of (tables_in db) ≡ no_old_tables → IsEmptyBeside (beside_in db)
+none_beside : (db : Database) → KnowsOld db.schema → old_of (tables_in InTables db) ≡ no_old_tables → IsEmptyBeside (beside_in db)
 none_beside db known none = subst (λ (rows : List (List Row)). AllByRecursion (λ (rs : List Row). rs ≡ []) rows) (sym rows) (blobs, (manifests, (sessions, tt)))
   where
     rows : rows_beside db.trees (trees_of db.schema) db.schema.tables ≡ db.trees (tree_of db.schema old_blobs_table) ∷ db.trees (tree_of db.schema old_manifests_table) ∷ db.trees (tree_of db.schema old_sessions_table) ∷ []
@@ -50,21 +51,21 @@ none_beside db known none = subst (λ (rows : List (List Row)). AllByRecursion (
 abbrev pub without_rows : OldTables → OldTables
 without_rows old = without_sessions (without_manifests (without_blobs old))
 
-module _ (first last : State) (moved : Moves without_rows (held first) (held last)) where
-  both : AreBoth no_old_tables (held last)
-  both = subst (λ (o : OldTables). AreBoth o (held last)) moved.left moved.underway.both
+module _ (first last : State) (moved : Moves without_rows (held InTables first) (held InTables last)) where
+  both : AreBoth no_old_tables (held InTables last)
+  both = subst (λ (o : OldTables). AreBoth o (held InTables last)) moved.left moved.underway.both
 
   abbrev raised : List Row
-  raised = changed (λ r. true) with_version_two (held last).version
+  raised = changed (λ r. true) with_version_two (held InTables last).version
 
-  stands : StandsFor (record (held last) { version = raised }) (world_of_both (old_of (held first)) (held first))
+  stands : StandsFor (record (held InTables last) { version = raised }) (world_of_both (old_of (held InTables first)) (held InTables first))
   stands = record {
-    world = ap (λ (o : OldTables). world_of_both o (held last)) (sym moved.left) ∙ moved.world;
-    registry = ends (held last) raised (held last).beside both (version_raised (held last).version both.version) (none_beside last.now moved.underway.olds.known moved.left);
+    world = ap (λ (o : OldTables). world_of_both o (held InTables last)) (sym moved.left) ∙ moved.world;
+    registry = ends (held InTables last) raised (held InTables last).beside both (version_raised (held InTables last).version both.version) (none_beside last.now moved.underway.olds.known moved.left);
   }
 
-  pub rewritten : (new : State) → Becomes new (record (held last) { version = changed (λ r. true) with_version_two (held last).version }) → IsReady new × Rewrites (held first) (held new)
-  rewritten new h = (h.0, subst (λ (t : Tables). StandsFor t (world_of_both (old_of (held first)) (held first))) (sym h.1) stands)
+  pub rewritten : (new : State) → Becomes InTables new (record (held InTables last) { version = changed (λ r. true) with_version_two (held InTables last).version }) → IsReady InTables new × Rewrites (held InTables first) (held InTables new)
+  rewritten new h = (h.0, subst (λ (t : Tables). StandsFor t (world_of_both (old_of (held InTables first)) (held InTables first))) (sym h.1) stands)
 
 pub all_counted : (first second third : Tables) (b m s : ℕ) → Moves without_blobs first second → Moves without_manifests second third → b ≡ length (old_of first).blobs → m ≡ length (old_of second).manifests → s ≡ length (old_of third).sessions
     → ◌≡◌ {A = MovedRows} (record { blobs = b; manifests = m; sessions = s }) (counts (old_of first))
@@ -75,16 +76,16 @@ all_counted first second third b m s blobs manifests p q r = λ i. record {
 }
 
 -- and once it is committed it is settled
-pub settles : (mid end : State) (w : World) → IsReady mid × StandsFor (held mid) w → Shows mid end mid.now mid.now false → SettlesOn end w
-settles mid end w it shows = makes end (held mid) w (commits mid end (held mid) (it.0, refl) shows) (it.1.world, it.1.registry)
+pub settles : (mid end : State) (w : World) → IsReady InTables mid × StandsFor (held InTables mid) w → Shows mid end mid.now mid.now false → SettlesOn InTables end w
+settles mid end w it shows = makes end (held InTables mid) w (commits mid end (held InTables mid) (it.0, refl) shows) (it.1.world, it.1.registry)
 
 -- ---- what a crash leaves
 
-again : (db : Database) (w : World) → HoldsTables db → Agree (tables_in db) → world_of (tables_in db) ≡ w → SettlesOn (reopened db) w
+again : (db : Database) (w : World) → HoldsTables InTables db → Agree (tables_in InTables db) → world_of (tables_in InTables db) ≡ w → SettlesOn InTables (reopened db) w
 again db w holds agree world = (record { is_open = refl; autocommit = refl; committed = refl; holds = holds; agree = agree }, world)
 
 -- what was committed
-pub left_done : {S : Type 0} (g : Ghosts S) → CrashLaw g → (end : Held S) (w : World) → SettlesOn (state g end) w → (trees : Trees) → (state g end).may_leave trees → MigratedTo w trees
+pub left_done : {S : Type 0} (g : Ghosts S) → CrashLaw g → (end : Held S) (w : World) → SettlesOn InTables (state g end) w → (trees : Trees) → (state g end).may_leave trees → MigratedTo w trees
 left_done g law end w it trees may = ((state g end).now, left_open g law end it.0.is_open it.0.committed trees may, again (state g end).now w it.0.holds it.0.agree it.1)
 
 module _ {S : Type 0} (g : Ghosts S) (law : CrashLaw g) (old : Held S) (idle : IsIdle (state g old)) where
@@ -96,7 +97,7 @@ module _ {S : Type 0} (g : Ghosts S) (law : CrashLaw g) (old : Held S) (idle : I
   left_given_up new it clean trees may = left_unmade trees (none_more (it.crash clean trees may))
 
   -- the commit failed, and may have been made
-  pub left_tried : (mid new : State) (w : World) → Survives (state g old) mid (λ _. ⊥) → Survives mid new (λ db. db ≡ mid.now.trees) → HasCleanDisk new → IsReady mid × StandsFor (held mid) w
+  pub left_tried : (mid new : State) (w : World) → Survives (state g old) mid (λ _. ⊥) → Survives mid new (λ db. db ≡ mid.now.trees) → HasCleanDisk new → IsReady InTables mid × StandsFor (held InTables mid) w
       → (trees : Trees) → new.may_leave trees → (trees ≡ (state g old).now.trees) ⊎ MigratedTo w trees
   left_tried mid new w worked tried clean it trees may = elim (tried.crash clean trees may) [
     | inl earlier ↦ inl (left_given_up mid worked (was_clean tried clean) trees earlier)

@@ -9,6 +9,7 @@ use Rattle.sqlite.specs.Effect.{Database}
 use Rattle.sqlite.specs.State.{State, HasCleanDisk, IsUnchanged, KeepsCommit, Survives}
 use Rattle.oci_types.specs.Text.{Text}
 use Rattle.store_schema.proofs.Selects.{commit_then, survives_both}
+use Rattle.store_contents.specs.Layouts.{InTables}
 use Rattle.store_statements.specs.Keys.{has_key, of_session}
 use Rattle.store_statements.specs.Changes.{without}
 use Rattle.store_statements.specs.Held.{IsReady, held, tables_in}
@@ -25,11 +26,11 @@ use Rattle.store_migration.proofs.Underway.{keeps_still, survives_still}
 -- ---- so far
 
 pub record MovedSoFar (f : OldTables → OldTables) (first now : State) : Type 0 where
-  pub moved : HasCleanDisk now → IsReady first → IsUnderway (held first) → IsReady now × Moves f (held first) (held now)
-  pub kept : HasCleanDisk now → IsReady first → IsUnderway (held first) → KeepsCommit first now
+  pub moved : HasCleanDisk now → IsReady InTables first → IsUnderway (held InTables first) → IsReady InTables now × Moves f (held InTables first) (held InTables now)
+  pub kept : HasCleanDisk now → IsReady InTables first → IsUnderway (held InTables first) → KeepsCommit first now
   pub survives : Survives first now (λ _. ⊥)
 
-pub none_moved : (f : OldTables → OldTables) (s : State) → f (old_of (held s)) ≡ old_of (held s) → MovedSoFar f s s
+pub none_moved : (f : OldTables → OldTables) (s : State) → f (old_of (held InTables s)) ≡ old_of (held InTables s) → MovedSoFar f s s
 none_moved f s same = record {
   moved = λ clean is under. (is, record { underway = under; world = refl; left = sym same });
   kept = λ clean is under. keeps_still s;
@@ -37,12 +38,12 @@ none_moved f s same = record {
 }
 
 pub one_moved : (f g h : OldTables → OldTables) (first mid new : State) → ((old : OldTables) → g (f old) ≡ h old) → MovedSoFar f first mid
-    → (HasCleanDisk new → IsReady mid → IsUnderway (held mid) → IsReady new × Moves g (held mid) (held new)) → (HasCleanDisk new → IsReady mid → IsUnderway (held mid) → KeepsCommit mid new) → Survives mid new (λ _. ⊥) → MovedSoFar h first new
+    → (HasCleanDisk new → IsReady InTables mid → IsUnderway (held InTables mid) → IsReady InTables new × Moves g (held InTables mid) (held InTables new)) → (HasCleanDisk new → IsReady InTables mid → IsUnderway (held InTables mid) → KeepsCommit mid new) → Survives mid new (λ _. ⊥) → MovedSoFar h first new
 one_moved f g h first mid new both before moved kept survives = record {
   moved = λ clean is under.
       let it = before.moved (early clean) is under in
       let now = moved clean it.0 it.1.underway in
-      (now.0, record { underway = now.1.underway; world = now.1.world ∙ it.1.world; left = now.1.left ∙ ap g it.1.left ∙ both (old_of (held first)) });
+      (now.0, record { underway = now.1.underway; world = now.1.world ∙ it.1.world; left = now.1.left ∙ ap g it.1.left ∙ both (old_of (held InTables first)) });
   kept = λ clean is under.
       let it = before.moved (early clean) is under in
       commit_then first mid new (before.kept (early clean) is under) (kept clean it.0 it.1.underway);
@@ -52,7 +53,7 @@ one_moved f g h first mid new both before moved kept survives = record {
     early : HasCleanDisk new → HasCleanDisk mid
     early clean = omega (arith, survives.clean)
 
-pub stopped : (f : OldTables → OldTables) (first mid new : State) → MovedSoFar f first mid → (HasCleanDisk new → IsReady mid → IsUnderway (held mid) → KeepsCommit mid new) → Survives mid new (λ _. ⊥) → HasCleanDisk new → IsReady first → IsUnderway (held first) → KeepsCommit first new
+pub stopped : (f : OldTables → OldTables) (first mid new : State) → MovedSoFar f first mid → (HasCleanDisk new → IsReady InTables mid → IsUnderway (held InTables mid) → KeepsCommit mid new) → Survives mid new (λ _. ⊥) → HasCleanDisk new → IsReady InTables first → IsUnderway (held InTables first) → KeepsCommit first new
 stopped f first mid new before kept survives clean is under =
     let early : HasCleanDisk mid = omega (arith, survives.clean) in
     let it = before.moved early is under in
@@ -60,9 +61,9 @@ stopped f first mid new before kept survives clean is under =
 
 -- ---- the keys were read first
 
-pub all_moved : {A E : Type 0} (r : Result A E) (f g : OldTables → OldTables) (old mid new : State) → IsUnchanged old mid → f (old_of (held old)) ≡ g (old_of (held old)) → OnOk r (IsReady new × Moves f (held mid) (held new)) → OnOk r (IsReady new × Moves g (held old) (held new))
+pub all_moved : {A E : Type 0} (r : Result A E) (f g : OldTables → OldTables) (old mid new : State) → IsUnchanged old mid → f (old_of (held InTables old)) ≡ g (old_of (held InTables old)) → OnOk r (IsReady InTables new × Moves f (held InTables mid) (held InTables new)) → OnOk r (IsReady InTables new × Moves g (held InTables old) (held InTables new))
 all_moved (Ok x) f g old mid new u same h =
-    let m : Moves f (held old) (held new) = subst (λ (d : Database). Moves f (tables_in d) (held new)) u.0.now_is h.1 in
+    let m : Moves f (held InTables old) (held InTables new) = subst (λ (d : Database). Moves f (tables_in InTables d) (held InTables new)) u.0.now_is h.1 in
     (h.0, record { underway = m.underway; world = m.world; left = m.left ∙ same })
 all_moved (Err e) f g old mid new u same h = tt
 

@@ -10,6 +10,7 @@ use Rattle.oci_types.specs.Manifest.{manifest_in}
 use Rattle.registry_model.specs.Manifests.{kind_in}
 use Rattle.registry_model.specs.Referrers.{subject_or_none}
 use Rattle.store_schema.specs.Rows.{bytes_at}
+use Rattle.store_contents.specs.Layouts.{InTables}
 use Rattle.store_statements.specs.Keys.{has_key, same_key}
 use Rattle.store_statements.specs.Tables.{Tables}
 use Rattle.store_statements.specs.Changes.{manifest_columns, Comes, Grow}
@@ -35,22 +36,22 @@ manifest_fresh old mid name digest bytes id kept fresh = ap (λ (t : Tables). fi
 abbrev read_columns : Text → Text → Text → ℤ → Row
 read_columns name digest bytes id = manifest_columns name digest (length bytes) (kind_in bytes) (subject_or_none (manifest_in bytes)) id
 
-stored : (old mid new : Tables) (id : ℤ) (name digest bytes : Text) → ContentKept old mid id bytes → Comes mid.manifests new.manifests (read_columns name digest bytes id) → new ≡ record mid { manifests = new.manifests } → ManifestStored old new name digest bytes
-stored old mid new id name digest bytes kept comes others =
+stored : (old mid new : Tables) (id : ℤ) (name digest bytes : Text) → ContentKept old mid id bytes → mid.places ≡ old.places → Comes mid.manifests new.manifests (read_columns name digest bytes id) → new ≡ record mid { manifests = new.manifests } → ManifestStored old new name digest bytes
+stored old mid new id name digest bytes kept placed comes others =
     let same : new.contents ≡ mid.contents = ap (λ (t : Tables). t.contents) others in
     record {
       id = id;
       grow = subst (Grow old.contents) (sym same) kept.grow;
       there = ap (λ contents. contents id) same ∙ kept.there;
       comes = subst (λ rows. Comes rows new.manifests (read_columns name digest bytes id)) (ap (λ (t : Tables). t.manifests) kept.others) comes;
-      others = others ∙ ap (λ (t : Tables). record t { manifests = new.manifests }) kept.others ∙ ap (λ contents. record old { contents = contents; manifests = new.manifests }) (sym same);
+      others = others ∙ ap (λ (t : Tables). record t { manifests = new.manifests }) kept.others ∙ (λ i. record old { contents = sym same i; places = placed i; manifests = new.manifests });
     }
 
-came : (old mid new : State) (id : ℤ) (name digest bytes : Text) (kind : Kind) (subject : Option Text) → kind ≡ kind_in bytes → subject ≡ subject_or_none (manifest_in bytes) → ContentKept (held old) (held mid) id bytes
-    → ManifestComes mid new (manifest_columns name digest (length bytes) kind subject id) → ManifestStored (held old) (held new) name digest bytes
+came : (old mid new : State) (id : ℤ) (name digest bytes : Text) (kind : Kind) (subject : Option Text) → kind ≡ kind_in bytes → subject ≡ subject_or_none (manifest_in bytes) → ContentKept (held InTables old) (held InTables mid) id bytes
+    → ManifestComes InTables mid new (manifest_columns name digest (length bytes) kind subject id) → ManifestStored (held InTables old) (held InTables new) name digest bytes
 came old mid new id name digest bytes kind subject k s kept h =
     let columns : manifest_columns name digest (length bytes) kind subject id ≡ read_columns name digest bytes id = λ i. manifest_columns name digest (length bytes) (k i) (s i) id in
-    stored (held old) (held mid) (held new) id name digest bytes kept (subst (Comes (held mid).manifests (held new).manifests) columns h.comes) h.others
+    stored (held InTables old) (held InTables mid) (held InTables new) id name digest bytes kept refl (subst (Comes (held InTables mid).manifests (held InTables new).manifests) columns h.comes) h.others
 
 -- ---- under the key of an old row
 
@@ -101,31 +102,31 @@ moves t w u name digest bytes under found s is = subst (Moves (without_manifest 
       };
     }
 
-moved_if : {A E : Type 0} (old mid new : State) (name digest bytes : Text) (r : Result A E) → IsUnderway (held old) → Found (held old) name digest bytes → ManifestStored (held old) (held mid) name digest bytes
-    → OnOk r (Becomes new (with_olds (held mid) (without_manifest name digest (old_of (held mid))))) → OnOk r (IsReady new × Moves (without_manifest name digest) (held old) (held new))
-moved_if old mid new name digest bytes (Ok x) under found s h = (h.0, moves (held old) (held mid) (held new) name digest bytes under found s h.1)
+moved_if : {A E : Type 0} (old mid new : State) (name digest bytes : Text) (r : Result A E) → IsUnderway (held InTables old) → Found (held InTables old) name digest bytes → ManifestStored (held InTables old) (held InTables mid) name digest bytes
+    → OnOk r (Becomes InTables new (with_olds (held InTables mid) (without_manifest name digest (old_of (held InTables mid))))) → OnOk r (IsReady InTables new × Moves (without_manifest name digest) (held InTables old) (held InTables new))
+moved_if old mid new name digest bytes (Ok x) under found s h = (h.0, moves (held InTables old) (held InTables mid) (held InTables new) name digest bytes under found s h.1)
 moved_if old mid new name digest bytes (Err e) under found s h = tt
 
 -- its content is kept, it comes, and the row goes
-pub moved_then : {A E : Type 0} (old mid late new : State) (id : ℤ) (name digest bytes : Text) (kind : Kind) (subject : Option Text) (r : Result A E) → kind ≡ kind_in bytes → subject ≡ subject_or_none (manifest_in bytes) → IsUnderway (held old) → Found (held old) name digest bytes
-    → ContentKept (held old) (held mid) id bytes → ManifestComes mid late (manifest_columns name digest (length bytes) kind subject id)
-    → (IsReady late → HasOlds (held late) → OnOk r (Becomes new (with_olds (held late) (without_manifest name digest (old_of (held late)))))) → OnOk r (IsReady new × Moves (without_manifest name digest) (held old) (held new))
+pub moved_then : {A E : Type 0} (old mid late new : State) (id : ℤ) (name digest bytes : Text) (kind : Kind) (subject : Option Text) (r : Result A E) → kind ≡ kind_in bytes → subject ≡ subject_or_none (manifest_in bytes) → IsUnderway (held InTables old) → Found (held InTables old) name digest bytes
+    → ContentKept (held InTables old) (held InTables mid) id bytes → ManifestComes InTables mid late (manifest_columns name digest (length bytes) kind subject id)
+    → (IsReady InTables late → HasOlds (held InTables late) → OnOk r (Becomes InTables new (with_olds (held InTables late) (without_manifest name digest (old_of (held InTables late)))))) → OnOk r (IsReady InTables new × Moves (without_manifest name digest) (held InTables old) (held InTables new))
 moved_then old mid late new id name digest bytes kind subject r k sub under found kept comes take =
-    let s : ManifestStored (held old) (held late) name digest bytes = came old mid late id name digest bytes kind subject k sub kept comes in
-    moved_if old late new name digest bytes r under found s (take comes.ready (olds_after (held old) (held late) name digest bytes under s))
+    let s : ManifestStored (held InTables old) (held InTables late) name digest bytes = came old mid late id name digest bytes kind subject k sub kept comes in
+    moved_if old late new name digest bytes r under found s (take comes.ready (olds_after (held InTables old) (held InTables late) name digest bytes under s))
 
 -- ---- as its bytes were read
 
-pub found_read : (old mid : State) (name digest bytes : Text) → IsUnchanged old mid → Found (held old) name digest bytes → Found (held mid) name digest bytes
-found_read old mid name digest bytes u found = subst (λ (d : Database). Found (tables_in d) name digest bytes) (sym u.0.now_is) found
+pub found_read : (old mid : State) (name digest bytes : Text) → IsUnchanged old mid → Found (held InTables old) name digest bytes → Found (held InTables mid) name digest bytes
+found_read old mid name digest bytes u found = subst (λ (d : Database). Found (tables_in InTables d) name digest bytes) (sym u.0.now_is) found
 
 -- the key has no row
-pub not_there : (old new : State) (name digest : Text) → IsReady old → IsUnderway (held old) → IsUnchanged old new → None ≡ option_map (λ r. bytes_at r 6) (find (has_key name digest) (old_of (held old)).manifests) → IsReady new × Moves (without_manifest name digest) (held old) (held new)
+pub not_there : (old new : State) (name digest : Text) → IsReady InTables old → IsUnderway (held InTables old) → IsUnchanged old new → None ≡ option_map (λ r. bytes_at r 6) (find (has_key name digest) (old_of (held InTables old)).manifests) → IsReady InTables new × Moves (without_manifest name digest) (held InTables old) (held InTables new)
 not_there old new name digest is under u none = (
   ready_read old new is u,
-  subst (λ (d : Database). Moves (without_manifest name digest) (held old) (tables_in d)) (sym u.0.now_is) (record {
+  subst (λ (d : Database). Moves (without_manifest name digest) (held InTables old) (tables_in InTables d)) (sym u.0.now_is) (record {
     underway = under;
     world = refl;
-    left = sym (ap (λ (rows : List Row). record (old_of (held old)) { manifests = rows }) (gone_stays (has_key name digest) (old_of (held old)).manifests (none_of (λ r. bytes_at r 6) (find (has_key name digest) (old_of (held old)).manifests) none)));
+    left = sym (ap (λ (rows : List Row). record (old_of (held InTables old)) { manifests = rows }) (gone_stays (has_key name digest) (old_of (held InTables old)).manifests (none_of (λ r. bytes_at r 6) (find (has_key name digest) (old_of (held InTables old)).manifests) none)));
   }),
 )

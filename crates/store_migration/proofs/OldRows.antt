@@ -10,6 +10,7 @@ use Rattle.store_schema.specs.OldSchema.{old_blobs_table, old_manifests_table, o
 use Rattle.store_schema.specs.Layout.{rows_of, tree_of, placed, Stands, Means, IsUnreferred, KeepsOthers}
 use Rattle.store_schema.specs.Commands as commands
 use Rattle.store_schema.proofs.Writes.{passes, deletes, removes, Removes, keeps_others}
+use Rattle.store_contents.specs.Layouts.{InTables}
 use Rattle.store_statements.specs.Tables.{Tables, Beside, AreTables, AreRows}
 use Rattle.store_statements.specs.Changes.{without}
 use Rattle.store_statements.specs.Known.{KnowsRegistry, AreApart, trees_of}
@@ -20,16 +21,16 @@ use Rattle.store_migration.specs.Olds.{KnowsOld, old_of, rows_at}
 -- ---- where the old rows stand
 
 module _ (db : Database) (k : KnowsOld db.schema) where
-  three : (tables_in db).beside.rows ≡ rows_of db old_blobs_table ∷ rows_of db old_manifests_table ∷ rows_of db old_sessions_table ∷ []
+  three : (tables_in InTables db).beside.rows ≡ rows_of db old_blobs_table ∷ rows_of db old_manifests_table ∷ rows_of db old_sessions_table ∷ []
   three = k.beside db.trees
 
-  pub blobs_are : (old_of (tables_in db)).blobs ≡ rows_of db old_blobs_table
+  pub blobs_are : (old_of (tables_in InTables db)).blobs ≡ rows_of db old_blobs_table
   blobs_are = ap (λ rows. rows_at rows 0) three
 
-  pub manifests_are : (old_of (tables_in db)).manifests ≡ rows_of db old_manifests_table
+  pub manifests_are : (old_of (tables_in InTables db)).manifests ≡ rows_of db old_manifests_table
   manifests_are = ap (λ rows. rows_at rows 1) three
 
-  pub sessions_are : (old_of (tables_in db)).sessions ≡ rows_of db old_sessions_table
+  pub sessions_are : (old_of (tables_in InTables db)).sessions ≡ rows_of db old_sessions_table
   sessions_are = ap (λ rows. rows_at rows 2) three
 
 -- ---- a further table is written
@@ -37,15 +38,15 @@ module _ (db : Database) (k : KnowsOld db.schema) where
 same_tables : (t : Tables) (beside : Beside) → AreTables t → AreTables (record t { beside = beside })
 same_tables t beside a = record { repos = a.repos; grants = a.grants; tags = a.tags; blobs = a.blobs; manifests = a.manifests; uploads = a.uploads; pieces = a.pieces }
 
-module _ (table : Table) (old new : Database) (h : HoldsTables old) (apart : AreApart (tree_of old.schema table ∷ trees_of old.schema)) (keeps : KeepsOthers table old new) where
-  pub further : (tables_in new ≡ record (tables_in old) { beside = beside_in new }) × HoldsTables new
+module _ (table : Table) (old new : Database) (h : HoldsTables InTables old) (apart : AreApart (tree_of old.schema table ∷ trees_of old.schema)) (keeps : KeepsOthers table old new) where
+  pub further : (tables_in InTables new ≡ record (tables_in InTables old) { beside = beside_in new }) × HoldsTables InTables new
   further =
       let now = only_further old new h.known table apart keeps in (
         now,
         record {
-          known = subst KnowsRegistry (sym keeps.schema) h.known;
+          known = subst (KnowsRegistry InTables) (sym keeps.schema) h.known;
           contents = contents_beside_further old new h.known table apart keeps h.contents;
-          tables = subst AreTables (sym now) (same_tables (tables_in old) (beside_in new) h.tables);
+          tables = subst AreTables (sym now) (same_tables (tables_in InTables old) (beside_in new) h.tables);
         },
       )
 

@@ -6,6 +6,7 @@ use Rattle.sqlite.specs.Effect.{Database}
 use Rattle.sqlite.specs.State.{State, IsUnchanged}
 use Rattle.oci_types.specs.Text.{Text}
 use Rattle.store_schema.specs.Rows.{bytes_at}
+use Rattle.store_contents.specs.Layouts.{InTables}
 use Rattle.store_statements.specs.Keys.{of_session, has_start, same_session}
 use Rattle.store_statements.specs.Tables.{Tables}
 use Rattle.store_statements.specs.Registry.{Reach}
@@ -33,17 +34,18 @@ start_fresh old mid name number bytes id kept fresh = ap (λ (t : Tables). find 
 pieced : (old mid new : Tables) (id : ℤ) (name : Text) (number : ℕ) (bytes : Text) → ContentKept old mid id bytes → Comes mid.pieces new.pieces (piece_columns name number 0 (length bytes) id) → new ≡ record mid { pieces = new.pieces } → PieceStored old new name number 0 bytes
 pieced old mid new id name number bytes kept comes others =
     let same : new.contents ≡ mid.contents = ap (λ (t : Tables). t.contents) others in
+    let placed : new.places ≡ mid.places = ap (λ (t : Tables). t.places) others in
     record {
       id = id;
       grow = subst (Grow old.contents) (sym same) kept.grow;
       there = ap (λ contents. contents id) same ∙ kept.there;
       comes = subst (λ rows. Comes rows new.pieces (piece_columns name number 0 (length bytes) id)) (ap (λ (t : Tables). t.pieces) kept.others) comes;
-      others = others ∙ ap (λ (t : Tables). record t { pieces = new.pieces }) kept.others ∙ ap (λ contents. record old { contents = contents; pieces = new.pieces }) (sym same);
+      others = others ∙ ap (λ (t : Tables). record t { pieces = new.pieces }) kept.others ∙ (λ i. record old { contents = sym same i; places = sym placed i; pieces = new.pieces });
     }
 
-pub pieced_if : {A E : Type 0} (old mid new : State) (id : ℤ) (name : Text) (number : ℕ) (bytes : Text) (r : Result A E) → ContentKept (held old) (held mid) id bytes → OnOk r (PieceComes mid new (piece_columns name number 0 (length bytes) id))
-    → OnOk r (IsReady new × PieceStored (held old) (held new) name number 0 bytes)
-pieced_if old mid new id name number bytes (Ok x) kept h = (h.ready, pieced (held old) (held mid) (held new) id name number bytes kept h.comes h.others)
+pub pieced_if : {A E : Type 0} (old mid new : State) (id : ℤ) (name : Text) (number : ℕ) (bytes : Text) (r : Result A E) → ContentKept (held InTables old) (held InTables mid) id bytes → OnOk r (PieceComes InTables mid new (piece_columns name number 0 (length bytes) id))
+    → OnOk r (IsReady InTables new × PieceStored (held InTables old) (held InTables new) name number 0 bytes)
+pieced_if old mid new id name number bytes (Ok x) kept h = (h.ready, pieced (held InTables old) (held InTables mid) (held InTables new) id name number bytes kept h.comes h.others)
 pieced_if old mid new id name number bytes (Err e) kept h = tt
 
 -- the size is set, and pieces stay
@@ -53,9 +55,9 @@ sized name number bytes t = uploads_changed (of_session name number) (with_size 
 pub sized_fresh : (t u : Tables) (name : Text) (number : ℕ) (bytes : Text) → u ≡ sized name number bytes t → find (has_start name number 0) t.pieces ≡ None → find (has_start name number 0) u.pieces ≡ None
 sized_fresh t u name number bytes e fresh = ap (λ (x : Tables). find (has_start name number 0) x.pieces) e ∙ fresh
 
-pub sized_if : {A E : Type 0} (mid new : State) (t : Tables) (name : Text) (number : ℕ) (bytes : Text) (r : Result A E) → held mid ≡ sized name number bytes t → OnOk r (IsReady new × PieceStored (held mid) (held new) name number 0 bytes)
-    → OnOk r (IsReady new × PieceStored (sized name number bytes t) (held new) name number 0 bytes)
-sized_if mid new t name number bytes (Ok x) e h = (h.0, subst (λ (s : Tables). PieceStored s (held new) name number 0 bytes) e h.1)
+pub sized_if : {A E : Type 0} (mid new : State) (t : Tables) (name : Text) (number : ℕ) (bytes : Text) (r : Result A E) → held InTables mid ≡ sized name number bytes t → OnOk r (IsReady InTables new × PieceStored (held InTables mid) (held InTables new) name number 0 bytes)
+    → OnOk r (IsReady InTables new × PieceStored (sized name number bytes t) (held InTables new) name number 0 bytes)
+sized_if mid new t name number bytes (Ok x) e h = (h.0, subst (λ (s : Tables). PieceStored s (held InTables new) name number 0 bytes) e h.1)
 sized_if mid new t name number bytes (Err x) e h = tt
 
 -- ---- whether there are bytes
@@ -74,22 +76,22 @@ pub upload_pieces : (old mid : Tables) (name : Text) (number : ℕ) → mid ≡ 
 upload_pieces old mid name number others fresh = ap (λ (t : Tables). find (has_start name number 0) t.pieces) others ∙ fresh
 
 -- and stays empty
-pub stored_empty : (old new : State) (name : Text) (number : ℕ) (bytes : Text) → bytes ≡ [] → UploadComes old new (upload_columns name number) → IsReady new × SessionStored (held old) (held new) name number bytes
+pub stored_empty : (old new : State) (name : Text) (number : ℕ) (bytes : Text) → bytes ≡ [] → UploadComes InTables old new (upload_columns name number) → IsReady InTables new × SessionStored (held InTables old) (held InTables new) name number bytes
 stored_empty old new name number bytes none h = (
   h.ready,
   record {
-    uploads = (held new).uploads;
+    uploads = (held InTables new).uploads;
     opens = h.comes;
     filled = inl (record {
       none = none;
-      others = h.others ∙ ap (λ b. record (held old) { uploads = (held new).uploads; beside = b }) (sym (ap (λ (t : Tables). t.beside) h.others));
+      others = h.others ∙ ap (λ b. record (held InTables old) { uploads = (held InTables new).uploads; beside = b }) (sym (ap (λ (t : Tables). t.beside) h.others));
     });
     beside = ap (λ (t : Tables). t.beside) h.others;
   },
 )
 
-filled_of : (t m u : Tables) (name : Text) (number : ℕ) (bytes : Text) → 0 < length bytes → m ≡ record t { uploads = m.uploads } → PieceStored (sized name number bytes m) u name number 0 bytes → Filled t u name number bytes m.uploads
-filled_of t m u name number bytes more e s =
+filled_of : (t m u : Tables) (name : Text) (number : ℕ) (bytes : Text) → 0 < length bytes → m ≡ record t { uploads = m.uploads } → PieceStored (sized name number bytes m) u name number 0 bytes → u.places ≡ t.places → Filled t u name number bytes m.uploads
+filled_of t m u name number bytes more e s placed =
     let b : u.beside ≡ t.beside = ap (λ (x : Tables). x.beside) s.others ∙ ap (λ (x : Tables). x.beside) e in
     record {
       more = more;
@@ -97,19 +99,19 @@ filled_of t m u name number bytes more e s =
       grow = subst (λ contents. Grow contents u.contents) (ap (λ (x : Tables). x.contents) e) s.grow;
       held = s.there;
       comes = subst (λ rows. Comes rows u.pieces (piece_columns name number 0 (length bytes) s.id)) (ap (λ (x : Tables). x.pieces) e) s.comes;
-      others = s.others ∙ ap (λ (x : Tables). record x { contents = u.contents; pieces = u.pieces; uploads = changed (of_session name number) (with_size (length bytes)) m.uploads }) e
-          ∙ ap (λ rest. record t { contents = u.contents; pieces = u.pieces; uploads = changed (of_session name number) (with_size (length bytes)) m.uploads; beside = rest }) (sym b);
+      others = s.others ∙ ap (λ (x : Tables). record x { contents = u.contents; places = u.places; pieces = u.pieces; uploads = changed (of_session name number) (with_size (length bytes)) m.uploads }) e
+          ∙ (λ i. record t { contents = u.contents; places = placed i; pieces = u.pieces; uploads = changed (of_session name number) (with_size (length bytes)) m.uploads; beside = sym b i });
     }
 
 -- or gets its bytes
-pub stored_filled : {A E : Type 0} (old mid new : State) (name : Text) (number : ℕ) (bytes : Text) (r : Result A E) → 0 < length bytes → UploadComes old mid (upload_columns name number) → OnOk r (IsReady new × PieceStored (sized name number bytes (held mid)) (held new) name number 0 bytes)
-    → OnOk r (IsReady new × SessionStored (held old) (held new) name number bytes)
+pub stored_filled : {A E : Type 0} (old mid new : State) (name : Text) (number : ℕ) (bytes : Text) (r : Result A E) → 0 < length bytes → UploadComes InTables old mid (upload_columns name number) → OnOk r (IsReady InTables new × PieceStored (sized name number bytes (held InTables mid)) (held InTables new) name number 0 bytes)
+    → OnOk r (IsReady InTables new × SessionStored (held InTables old) (held InTables new) name number bytes)
 stored_filled old mid new name number bytes (Ok x) more h s = (
   s.0,
   record {
-    uploads = (held mid).uploads;
+    uploads = (held InTables mid).uploads;
     opens = h.comes;
-    filled = inr (filled_of (held old) (held mid) (held new) name number bytes more h.others s.1);
+    filled = inr (filled_of (held InTables old) (held InTables mid) (held InTables new) name number bytes more h.others s.1 refl);
     beside = ap (λ (t : Tables). t.beside) s.1.others ∙ ap (λ (t : Tables). t.beside) h.others;
   },
 )
@@ -184,23 +186,23 @@ module _ (t w u : Tables) (name : Text) (number : ℕ) (bytes : Text) (under : I
       let law = session_moves (old_of t) (old_of u) t u under.both moved in
       record { underway = record { olds = olds; both = law.1 }; world = law.0; left = left }
 
-pub moved_if : {A E : Type 0} (old mid new : State) (name : Text) (number : ℕ) (bytes : Text) (r : Result A E) → IsUnderway (held old) → Found (held old) name number bytes → SessionStored (held old) (held mid) name number bytes
-    → OnOk r (Becomes new (with_olds (held mid) (without_session name number (old_of (held mid))))) → OnOk r (IsReady new × Moves (without_session name number) (held old) (held new))
-moved_if old mid new name number bytes (Ok x) under found s h = (h.0, moves (held old) (held mid) (held new) name number bytes under found s h.1)
+pub moved_if : {A E : Type 0} (old mid new : State) (name : Text) (number : ℕ) (bytes : Text) (r : Result A E) → IsUnderway (held InTables old) → Found (held InTables old) name number bytes → SessionStored (held InTables old) (held InTables mid) name number bytes
+    → OnOk r (Becomes InTables new (with_olds (held InTables mid) (without_session name number (old_of (held InTables mid))))) → OnOk r (IsReady InTables new × Moves (without_session name number) (held InTables old) (held InTables new))
+moved_if old mid new name number bytes (Ok x) under found s h = (h.0, moves (held InTables old) (held InTables mid) (held InTables new) name number bytes under found s h.1)
 moved_if old mid new name number bytes (Err e) under found s h = tt
 
 -- ---- as its bytes were read
 
-pub found_read : (old mid : State) (name : Text) (number : ℕ) (bytes : Text) → IsUnchanged old mid → Found (held old) name number bytes → Found (held mid) name number bytes
-found_read old mid name number bytes u found = subst (λ (d : Database). Found (tables_in d) name number bytes) (sym u.0.now_is) found
+pub found_read : (old mid : State) (name : Text) (number : ℕ) (bytes : Text) → IsUnchanged old mid → Found (held InTables old) name number bytes → Found (held InTables mid) name number bytes
+found_read old mid name number bytes u found = subst (λ (d : Database). Found (tables_in InTables d) name number bytes) (sym u.0.now_is) found
 
 -- the key has no row
-pub not_there : (old new : State) (name : Text) (number : ℕ) → IsReady old → IsUnderway (held old) → IsUnchanged old new → None ≡ option_map (λ r. bytes_at r 4) (find (of_session name number) (old_of (held old)).sessions) → IsReady new × Moves (without_session name number) (held old) (held new)
+pub not_there : (old new : State) (name : Text) (number : ℕ) → IsReady InTables old → IsUnderway (held InTables old) → IsUnchanged old new → None ≡ option_map (λ r. bytes_at r 4) (find (of_session name number) (old_of (held InTables old)).sessions) → IsReady InTables new × Moves (without_session name number) (held InTables old) (held InTables new)
 not_there old new name number is under u none = (
   ready_read old new is u,
-  subst (λ (d : Database). Moves (without_session name number) (held old) (tables_in d)) (sym u.0.now_is) (record {
+  subst (λ (d : Database). Moves (without_session name number) (held InTables old) (tables_in InTables d)) (sym u.0.now_is) (record {
     underway = under;
     world = refl;
-    left = sym (ap (λ (rows : List Row). record (old_of (held old)) { sessions = rows }) (gone_stays (of_session name number) (old_of (held old)).sessions (none_of (λ r. bytes_at r 4) (find (of_session name number) (old_of (held old)).sessions) none)));
+    left = sym (ap (λ (rows : List Row). record (old_of (held InTables old)) { sessions = rows }) (gone_stays (of_session name number) (old_of (held InTables old)).sessions (none_of (λ r. bytes_at r 4) (find (of_session name number) (old_of (held InTables old)).sessions) none)));
   }),
 )

@@ -4,6 +4,7 @@ use Rattle.std.specs.Prelude.{Option, option_map, is_some, IsTrue}
 use Rattle.sqlite.specs.Effect.{Database}
 use Rattle.sqlite.specs.State.{State, IsUnchanged, KeepsCommit, Survives}
 use Rattle.store_schema.specs.Rows.{HaveIds}
+use Rattle.store_contents.specs.Layouts.{InTables}
 use Rattle.store_statements.specs.Tables.{Tables, Beside}
 use Rattle.store_statements.specs.Held.{IsReady, HoldsTables, held, tables_in}
 use Rattle.store_migration.specs.OldTables.{OldTables}
@@ -19,14 +20,14 @@ olds_kept t u o b v = record {
 
 -- ---- it was only read
 
-pub ready_read : (old new : State) → IsReady old → IsUnchanged old new → IsReady new
-ready_read old new is u = record { inside = subst IsTrue (sym u.0.mode) is.inside; holds = subst HoldsTables (sym u.0.now_is) is.holds }
+pub ready_read : (old new : State) → IsReady InTables old → IsUnchanged old new → IsReady InTables new
+ready_read old new is u = record { inside = subst IsTrue (sym u.0.mode) is.inside; holds = subst (HoldsTables InTables) (sym u.0.now_is) is.holds }
 
-pub underway_read : (old new : State) → IsUnderway (held old) → IsUnchanged old new → IsUnderway (held new)
-underway_read old new under u = subst (λ (d : Database). IsUnderway (tables_in d)) (sym u.0.now_is) under
+pub underway_read : (old new : State) → IsUnderway (held InTables old) → IsUnchanged old new → IsUnderway (held InTables new)
+underway_read old new under u = subst (λ (d : Database). IsUnderway (tables_in InTables d)) (sym u.0.now_is) under
 
-pub moved_read : {A E : Type 0} (old mid new : State) (f : OldTables → OldTables) (r : Result A E) → IsUnchanged old mid → OnOk r (IsReady new × Moves f (held mid) (held new)) → OnOk r (IsReady new × Moves f (held old) (held new))
-moved_read old mid new f r u h = subst (λ (d : Database). OnOk r (IsReady new × Moves f (tables_in d) (held new))) u.0.now_is h
+pub moved_read : {A E : Type 0} (old mid new : State) (f : OldTables → OldTables) (r : Result A E) → IsUnchanged old mid → OnOk r (IsReady InTables new × Moves f (held InTables mid) (held InTables new)) → OnOk r (IsReady InTables new × Moves f (held InTables old) (held InTables new))
+moved_read old mid new f r u h = subst (λ (d : Database). OnOk r (IsReady InTables new × Moves f (tables_in InTables d) (held InTables new))) u.0.now_is h
 
 -- ---- nothing was done
 

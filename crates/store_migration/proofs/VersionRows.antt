@@ -17,6 +17,7 @@ use Rattle.store_schema.specs.Layout.{tree_of, placed}
 use Rattle.store_schema.proofs.Ids.{rowid_is}
 use Rattle.store_schema.proofs.Writes.{passes, either, updates, keeps_others}
 use Rattle.store_schema.proofs.Updates.{sets, Sets}
+use Rattle.store_contents.specs.Layouts.{InTables}
 use Rattle.store_statements.specs.Tables.{Tables, AreTables}
 use Rattle.store_statements.specs.Changes.{changed}
 use Rattle.store_statements.specs.Known.{KnowsRegistry}
@@ -43,8 +44,8 @@ one_row (r ∷ s ∷ rows) one = absurd cc
 same_tables : (t : Tables) (rows : List Row) → AreTables t → AreTables (record t { version = rows })
 same_tables t rows a = record { repos = a.repos; grants = a.grants; tags = a.tags; blobs = a.blobs; manifests = a.manifests; uploads = a.uploads; pieces = a.pieces }
 
-raised : (old new : State) (n : ℕ) → HoldsTables old.now → HasOlds (held old) → IsOfSchemaOne (held old).version → Executes version_raise [] old new (Ok n)
-    → (held new ≡ record (held old) { version = changed (λ r. true) with_version_two (held old).version }) × HoldsTables new.now
+raised : (old new : State) (n : ℕ) → HoldsTables InTables old.now → HasOlds (held InTables old) → IsOfSchemaOne (held InTables old).version → Executes version_raise [] old new (Ok n)
+    → (held InTables new ≡ record (held InTables old) { version = changed (λ r. true) with_version_two (held InTables old).version }) × HoldsTables InTables new.now
 raised old new n h o one ran =
     let schema = old.now.schema in
     let table = placed schema version_table in
@@ -55,13 +56,13 @@ raised old new n h o one ran =
     let now = only_version old.now new.now h.known keeps _ (ap (λ s. new.now.trees (tree_of s version_table)) it.ran.schema_is ∙ it.rows) in (
       now,
       record {
-        known = subst KnowsRegistry (sym keeps.schema) h.known;
+        known = subst (KnowsRegistry InTables) (sym keeps.schema) h.known;
         contents = contents_beside_version old.now new.now h.known keeps h.contents;
-        tables = subst AreTables (sym now) (same_tables (tables_in old.now) _ h.tables);
+        tables = subst AreTables (sym now) (same_tables (tables_in InTables old.now) _ h.tables);
       },
     )
 
-pub raised_by : (old new : State) (r : Result ℕ Error) → HoldsTables old.now → HasOlds (held old) → IsOfSchemaOne (held old).version → ExecutesInside 0 version_raise [] old new r
-    → OnOk r (Becomes new (record (held old) { version = changed (λ r. true) with_version_two (held old).version }))
+pub raised_by : (old new : State) (r : Result ℕ Error) → HoldsTables InTables old.now → HasOlds (held InTables old) → IsOfSchemaOne (held InTables old).version → ExecutesInside 0 version_raise [] old new r
+    → OnOk r (Becomes InTables new (record (held InTables old) { version = changed (λ r. true) with_version_two (held InTables old).version }))
 raised_by old new (Err e) h o one ran = tt
 raised_by old new (Ok n) h o one ran = let it = raised old new n h o one ran.0 in (record { inside = ran.1.mode; holds = it.1 }, it.0)

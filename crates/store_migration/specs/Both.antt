@@ -76,9 +76,10 @@ pub record AreBoth (old : OldTables) (t : Tables) : Type 0 where
 
 -- ---- where it begins
 
--- the tables that only schema 2 has were just made
+-- the tables that only schema 2 has were just made: all are taken as tables of that schema
 abbrev pub emptied : Tables → Tables
 emptied t = record t {
+  number = 2;
   contents = λ id. None;
   blobs = [];
   manifests = [];

@@ -6,6 +6,7 @@ use Rattle.sqlite.specs.Tree.{Trees}
 use Rattle.sqlite.specs.State.{State, HasCleanDisk}
 use Rattle.sqlite.specs.Held.{Held, state}
 use Rattle.registry_model.specs.World.{World}
+use Rattle.store_contents.specs.Layouts.{InTables}
 use Rattle.store_statements.specs.Held.{SettlesOn, reopened}
 use Rattle.store_opening.specs.declared.opening.OpenFault.{OpenFault}
 use Rattle.store_opening.specs.declared.opening.OpenFault.TheVariants.{Schema}
@@ -36,7 +37,7 @@ IsTold s _ = ⊤
 
 -- the trees are those of a database whose tables of schema 2 stand for this world
 abbrev pub MigratedTo : World → Trees → Type 0
-MigratedTo w trees = (db : Database) × (trees ≡ db.trees) × SettlesOn (reopened db) w
+MigratedTo w trees = (db : Database) × (trees ≡ db.trees) × SettlesOn InTables (reopened db) w
 
 -- A crash leaves the registry of schema 1 as it was, or one of schema 2 that stands for the same world; where
 -- it was done, that.

@@ -8,6 +8,7 @@ use Rattle.oci_types.specs.Text.{Text}
 use Rattle.oci_types.specs.Manifest.{manifest_in}
 use Rattle.registry_model.specs.Manifests.{kind_in}
 use Rattle.registry_model.specs.Referrers.{subject_or_none}
+use Rattle.store_contents.specs.Layouts.{InTables}
 use Rattle.store_statements.specs.Keys.{has_key, of_session}
 use Rattle.store_statements.specs.Tables.{Tables}
 use Rattle.store_statements.specs.Changes.{without, manifest_columns, upload_columns, Comes, Grow}
@@ -81,17 +82,18 @@ pub record SessionStored (t u : Tables) (name : Text) (number : ℕ) (bytes : Te
 module _ {S : Type 0} (g : Ghosts S) (old new : Held S) where
   abbrev pub MovesOn : {A E : Type 0} → Result A E → (OldTables → OldTables) → Type 0
   MovesOn r f =
-      HasCleanDisk (state g new) → IsReady (state g old) → IsUnderway (held (state g old))
-      → OnOk r (IsReady (state g new) × Moves f (held (state g old)) (held (state g new)))
+      HasCleanDisk (state g new) → IsReady InTables (state g old) → IsUnderway (held InTables (state g old))
+      → OnOk r (IsReady InTables (state g new)
+      × Moves f (held InTables (state g old)) (held InTables (state g new)))
 
   -- the value is how many of these rows there were
   abbrev pub CountsOld : {E : Type 0} → Result ℕ E → (OldTables → List Row) → Type 0
   CountsOld r rows =
-      HasCleanDisk (state g new) → IsReady (state g old) → IsUnderway (held (state g old))
-      → IfOk r (λ n. n ≡ length (rows (old_of (held (state g old)))))
+      HasCleanDisk (state g new) → IsReady InTables (state g old) → IsUnderway (held InTables (state g old))
+      → IfOk r (λ n. n ≡ length (rows (old_of (held InTables (state g old)))))
 
   -- nothing was committed
   abbrev pub KeepsUnderway : Type 0
   KeepsUnderway =
-      HasCleanDisk (state g new) → IsReady (state g old) → IsUnderway (held (state g old))
+      HasCleanDisk (state g new) → IsReady InTables (state g old) → IsUnderway (held InTables (state g old))
       → KeepsCommit (state g old) (state g new)

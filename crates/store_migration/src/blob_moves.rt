@@ -3,6 +3,7 @@ ghost use Rattle.std.specs.Prelude.{◌≡◌, ◌<◌, ◌^◌, length, find, o
 ghost use Rattle.sqlite.specs.State.{HasCleanDisk, KeepsCommit};
 ghost use Rattle.sqlite.specs.Held.{state};
 ghost use Rattle.store_schema.specs.Rows.{bytes_at};
+ghost use Rattle.store_contents.specs.Layouts.{InTables};
 ghost use Rattle.store_statements.specs.Keys.{has_key};
 ghost use Rattle.store_statements.specs.Clauses.{LastsUncommitted};
 ghost use Rattle.store_statements.specs.Held.{IsReady, held};
@@ -28,18 +29,20 @@ fn move_found<S: Alter>(
     bytes: &[u8],
 ) -> Result<(), Fault>
     requires fits { length bytes.now < 2 ^ 63 }
-    ensures moved { HasCleanDisk (state S.Store tx.new.conn.now) → IsReady (state S.Store tx.old.conn.now)
-        → IsUnderway (held (state S.Store tx.old.conn.now))
+    ensures moved { HasCleanDisk (state S.Store tx.new.conn.now)
+        → IsReady InTables (state S.Store tx.old.conn.now)
+        → IsUnderway (held InTables (state S.Store tx.old.conn.now))
         → option_map (λ r. bytes_at r 4)
-        (find (has_key repo.now digest.now) (old_of (held (state S.Store tx.old.conn.now))).blobs)
+        (find (has_key repo.now digest.now) (old_of (held InTables (state S.Store tx.old.conn.now))).blobs)
         ≡ Some bytes.now
         → OnOk result
-        (IsReady (state S.Store tx.new.conn.now) × Moves (without_blob repo.now digest.now)
-        (held (state S.Store tx.old.conn.now)) (held (state S.Store tx.new.conn.now))) }
-    ensures kept { HasCleanDisk (state S.Store tx.new.conn.now) → IsReady (state S.Store tx.old.conn.now)
-        → IsUnderway (held (state S.Store tx.old.conn.now))
+        (IsReady InTables (state S.Store tx.new.conn.now) × Moves (without_blob repo.now digest.now)
+        (held InTables (state S.Store tx.old.conn.now)) (held InTables (state S.Store tx.new.conn.now))) }
+    ensures kept { HasCleanDisk (state S.Store tx.new.conn.now)
+        → IsReady InTables (state S.Store tx.old.conn.now)
+        → IsUnderway (held InTables (state S.Store tx.old.conn.now))
         → option_map (λ r. bytes_at r 4)
-        (find (has_key repo.now digest.now) (old_of (held (state S.Store tx.old.conn.now))).blobs)
+        (find (has_key repo.now digest.now) (old_of (held InTables (state S.Store tx.old.conn.now))).blobs)
         ≡ Some bytes.now
         → KeepsCommit (state S.Store tx.old.conn.now) (state S.Store tx.new.conn.now) }
     ensures same_reference { tx.new.conn.ghost_name ≡ tx.old.conn.ghost_name }

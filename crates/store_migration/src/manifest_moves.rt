@@ -6,6 +6,7 @@ ghost use Rattle.oci_types.specs.Manifest.{manifest_in};
 ghost use Rattle.registry_model.specs.Manifests.{kind_in};
 ghost use Rattle.registry_model.specs.Referrers.{subject_or_none};
 ghost use Rattle.store_schema.specs.Rows.{bytes_at};
+ghost use Rattle.store_contents.specs.Layouts.{InTables};
 ghost use Rattle.store_statements.specs.Keys.{has_key};
 ghost use Rattle.store_statements.specs.Clauses.{LastsUncommitted};
 ghost use Rattle.store_statements.specs.Held.{IsReady, held};
@@ -46,18 +47,22 @@ fn move_as<S: Alter>(
     requires fits { length bytes.now < 2 ^ 63 }
     requires of_kind { kind ≡ kind_in bytes.now }
     requires of_subject { option_map (λ text. text.now) subject ≡ subject_or_none (manifest_in bytes.now) }
-    ensures moved { HasCleanDisk (state S.Store tx.new.conn.now) → IsReady (state S.Store tx.old.conn.now)
-        → IsUnderway (held (state S.Store tx.old.conn.now))
+    ensures moved { HasCleanDisk (state S.Store tx.new.conn.now)
+        → IsReady InTables (state S.Store tx.old.conn.now)
+        → IsUnderway (held InTables (state S.Store tx.old.conn.now))
         → option_map (λ r. bytes_at r 6)
-        (find (has_key repo.now digest.now) (old_of (held (state S.Store tx.old.conn.now))).manifests)
+        (find (has_key repo.now digest.now)
+        (old_of (held InTables (state S.Store tx.old.conn.now))).manifests)
         ≡ Some bytes.now
         → OnOk result
-        (IsReady (state S.Store tx.new.conn.now) × Moves (without_manifest repo.now digest.now)
-        (held (state S.Store tx.old.conn.now)) (held (state S.Store tx.new.conn.now))) }
-    ensures kept { HasCleanDisk (state S.Store tx.new.conn.now) → IsReady (state S.Store tx.old.conn.now)
-        → IsUnderway (held (state S.Store tx.old.conn.now))
+        (IsReady InTables (state S.Store tx.new.conn.now) × Moves (without_manifest repo.now digest.now)
+        (held InTables (state S.Store tx.old.conn.now)) (held InTables (state S.Store tx.new.conn.now))) }
+    ensures kept { HasCleanDisk (state S.Store tx.new.conn.now)
+        → IsReady InTables (state S.Store tx.old.conn.now)
+        → IsUnderway (held InTables (state S.Store tx.old.conn.now))
         → option_map (λ r. bytes_at r 6)
-        (find (has_key repo.now digest.now) (old_of (held (state S.Store tx.old.conn.now))).manifests)
+        (find (has_key repo.now digest.now)
+        (old_of (held InTables (state S.Store tx.old.conn.now))).manifests)
         ≡ Some bytes.now
         → KeepsCommit (state S.Store tx.old.conn.now) (state S.Store tx.new.conn.now) }
     ensures same_reference { tx.new.conn.ghost_name ≡ tx.old.conn.ghost_name }
@@ -85,18 +90,22 @@ fn move_found<S: Alter>(
     bytes: &[u8],
 ) -> Result<(), Fault>
     requires fits { length bytes.now < 2 ^ 63 }
-    ensures moved { HasCleanDisk (state S.Store tx.new.conn.now) → IsReady (state S.Store tx.old.conn.now)
-        → IsUnderway (held (state S.Store tx.old.conn.now))
+    ensures moved { HasCleanDisk (state S.Store tx.new.conn.now)
+        → IsReady InTables (state S.Store tx.old.conn.now)
+        → IsUnderway (held InTables (state S.Store tx.old.conn.now))
         → option_map (λ r. bytes_at r 6)
-        (find (has_key repo.now digest.now) (old_of (held (state S.Store tx.old.conn.now))).manifests)
+        (find (has_key repo.now digest.now)
+        (old_of (held InTables (state S.Store tx.old.conn.now))).manifests)
         ≡ Some bytes.now
         → OnOk result
-        (IsReady (state S.Store tx.new.conn.now) × Moves (without_manifest repo.now digest.now)
-        (held (state S.Store tx.old.conn.now)) (held (state S.Store tx.new.conn.now))) }
-    ensures kept { HasCleanDisk (state S.Store tx.new.conn.now) → IsReady (state S.Store tx.old.conn.now)
-        → IsUnderway (held (state S.Store tx.old.conn.now))
+        (IsReady InTables (state S.Store tx.new.conn.now) × Moves (without_manifest repo.now digest.now)
+        (held InTables (state S.Store tx.old.conn.now)) (held InTables (state S.Store tx.new.conn.now))) }
+    ensures kept { HasCleanDisk (state S.Store tx.new.conn.now)
+        → IsReady InTables (state S.Store tx.old.conn.now)
+        → IsUnderway (held InTables (state S.Store tx.old.conn.now))
         → option_map (λ r. bytes_at r 6)
-        (find (has_key repo.now digest.now) (old_of (held (state S.Store tx.old.conn.now))).manifests)
+        (find (has_key repo.now digest.now)
+        (old_of (held InTables (state S.Store tx.old.conn.now))).manifests)
         ≡ Some bytes.now
         → KeepsCommit (state S.Store tx.old.conn.now) (state S.Store tx.new.conn.now) }
     ensures same_reference { tx.new.conn.ghost_name ≡ tx.old.conn.ghost_name }

@@ -3,6 +3,7 @@ ghost use Rattle.std.specs.Prelude.{◌≡◌, ◌≢◌, ℤ, pos, Some, None, 
 ghost use Rattle.sqlite.specs.State.{HasCleanDisk};
 ghost use Rattle.sqlite.specs.Held.{state};
 ghost use Rattle.store_schema.specs.Beside.{AreFree, names_of_two};
+ghost use Rattle.store_contents.specs.Layouts.{InTables};
 ghost use Rattle.store_statements.specs.Clauses.{Lasts};
 ghost use Rattle.store_statements.specs.Held.{SettlesOn, StaysSettled, IsBack};
 ghost use Rattle.store_opening.specs.Opening.{IsIdle, KnowsVersion, HoldsRegistry, versions_in};
@@ -44,7 +45,8 @@ fn take_over<S: Alter, W: Watch>(
     watch: &mut W,
 ) -> Result<MovedRows, OpenFault>
     ensures moved { HasCleanDisk (state S.Store conn.new) → HoldsOldRegistry (state S.Store conn.old).now
-        → OnOk result (SettlesOn (state S.Store conn.new) (old_world_in (state S.Store conn.old).now)) }
+        → OnOk result
+        (SettlesOn InTables (state S.Store conn.new) (old_world_in (state S.Store conn.old).now)) }
     ensures counted { HasCleanDisk (state S.Store conn.new) → HoldsOldRegistry (state S.Store conn.old).now
         → IfOk result (λ m. m ≡ counts (olds_in (state S.Store conn.old).now)) }
     ensures wanting { HasCleanDisk (state S.Store conn.new) → HoldsOldRegistry (state S.Store conn.old).now
@@ -80,7 +82,8 @@ pub fn migrate_open<S: Alter, W: Watch>(
 ) -> Result<Option<MovedRows>, OpenFault>
     ensures moved { HasCleanDisk (state S.Store conn.new) → IsIdle (state S.Store conn.old)
         → HoldsOldRegistry (state S.Store conn.old).now
-        → OnOk result (SettlesOn (state S.Store conn.new) (old_world_in (state S.Store conn.old).now)) }
+        → OnOk result
+        (SettlesOn InTables (state S.Store conn.new) (old_world_in (state S.Store conn.old).now)) }
     ensures counted { HasCleanDisk (state S.Store conn.new) → IsIdle (state S.Store conn.old)
         → HoldsOldRegistry (state S.Store conn.old).now
         → IfOk result (λ o. o ≡ Some (counts (olds_in (state S.Store conn.old).now))) }
@@ -88,7 +91,7 @@ pub fn migrate_open<S: Alter, W: Watch>(
         → IfErr result IsWanting }
     ensures found { HasCleanDisk (state S.Store conn.new) → IsIdle (state S.Store conn.old)
         → HoldsRegistry (state S.Store conn.old).now
-        → OnOk result (StaysSettled (state S.Store conn.old) (state S.Store conn.new)) }
+        → OnOk result (StaysSettled InTables (state S.Store conn.old) (state S.Store conn.new)) }
     ensures nothing { HasCleanDisk (state S.Store conn.new) → HoldsRegistry (state S.Store conn.old).now
         → IfOk result (λ o. o ≡ None) }
     ensures unmoved { HasCleanDisk (state S.Store conn.new) → HoldsRegistry (state S.Store conn.old).now

@@ -2,6 +2,7 @@
 ghost use Rattle.std.specs.Prelude.{◌≡◌, map, find, option_map};
 ghost use Rattle.std.specs.List.Sorted.{IsPermutation};
 ghost use Rattle.store_schema.specs.Rows.{bytes_at};
+ghost use Rattle.store_contents.specs.Layouts.{InTables};
 ghost use Rattle.store_statements.specs.Keys.{has_key};
 ghost use Rattle.store_statements.specs.Changes.{without};
 ghost use Rattle.store_statements.specs.Clauses.{KeepsInside, LastsUncommitted};
@@ -58,7 +59,7 @@ pub fn take_blob<S: Alter>(
 ) -> Result<(), Fault>
     ensures taken { ChangesOld S.Store tx.old.conn.now tx.new.conn.now result
         (λ old. record old { blobs = without (has_key repo.now digest.now) old.blobs }) }
-    ensures kept { KeepsInside S.Store tx.old.conn.now tx.new.conn.now }
+    ensures kept { KeepsInside S.Store InTables tx.old.conn.now tx.new.conn.now }
     ensures same_reference { tx.new.conn.ghost_name ≡ tx.old.conn.ghost_name }
     ensures survives { LastsUncommitted S.Store tx.old.conn.now tx.new.conn.now }
 {

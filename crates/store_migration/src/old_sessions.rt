@@ -2,6 +2,7 @@
 ghost use Rattle.std.specs.Prelude.{◌≡◌, map, find, option_map, ◌<◌, ◌^◌};
 ghost use Rattle.std.specs.List.Sorted.{IsPermutation};
 ghost use Rattle.store_schema.specs.Rows.{bytes_at};
+ghost use Rattle.store_contents.specs.Layouts.{InTables};
 ghost use Rattle.store_statements.specs.Keys.{of_session};
 ghost use Rattle.store_statements.specs.Changes.{without};
 ghost use Rattle.store_statements.specs.Clauses.{KeepsInside, LastsUncommitted};
@@ -63,7 +64,7 @@ pub fn take_session<S: Alter>(
     requires fits { number < 2 ^ 63 }
     ensures taken { ChangesOld S.Store tx.old.conn.now tx.new.conn.now result
         (λ old. record old { sessions = without (of_session repo.now number) old.sessions }) }
-    ensures kept { KeepsInside S.Store tx.old.conn.now tx.new.conn.now }
+    ensures kept { KeepsInside S.Store InTables tx.old.conn.now tx.new.conn.now }
     ensures same_reference { tx.new.conn.ghost_name ≡ tx.old.conn.ghost_name }
     ensures survives { LastsUncommitted S.Store tx.old.conn.now tx.new.conn.now }
 {

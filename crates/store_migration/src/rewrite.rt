@@ -3,6 +3,7 @@ ghost use Rattle.std.specs.Prelude.{◌≡◌, IsTrue, OnOk, IfOk, IfErr};
 ghost use Rattle.sqlite.specs.State.{HasCleanDisk, KeepsCommit};
 ghost use Rattle.sqlite.specs.Held.{state};
 ghost use Rattle.store_schema.specs.Beside.{AreFree, names_of_two};
+ghost use Rattle.store_contents.specs.Layouts.{InTables};
 ghost use Rattle.store_statements.specs.Clauses.{LastsUncommitted};
 ghost use Rattle.store_statements.specs.Held.{IsReady, held};
 ghost use Rattle.store_migration.specs.Olds.{old_of};
@@ -43,14 +44,17 @@ fn move_rows<S: Alter, W: Watch>(
     tx: &mut Transaction<'_, S>,
     watch: &mut W,
 ) -> Result<MovedRows, Fault>
-    ensures moved { HasCleanDisk (state S.Store tx.new.conn.now) → IsReady (state S.Store tx.old.conn.now)
-        → IsUnderway (held (state S.Store tx.old.conn.now))
+    ensures moved { HasCleanDisk (state S.Store tx.new.conn.now)
+        → IsReady InTables (state S.Store tx.old.conn.now)
+        → IsUnderway (held InTables (state S.Store tx.old.conn.now))
         → OnOk result
-        (IsReady (state S.Store tx.new.conn.now)
-        × Rewrites (held (state S.Store tx.old.conn.now)) (held (state S.Store tx.new.conn.now))) }
-    ensures counted { HasCleanDisk (state S.Store tx.new.conn.now) → IsReady (state S.Store tx.old.conn.now)
-        → IsUnderway (held (state S.Store tx.old.conn.now))
-        → IfOk result (λ m. m ≡ counts (old_of (held (state S.Store tx.old.conn.now)))) }
+        (IsReady InTables (state S.Store tx.new.conn.now)
+        × Rewrites (held InTables (state S.Store tx.old.conn.now))
+        (held InTables (state S.Store tx.new.conn.now))) }
+    ensures counted { HasCleanDisk (state S.Store tx.new.conn.now)
+        → IsReady InTables (state S.Store tx.old.conn.now)
+        → IsUnderway (held InTables (state S.Store tx.old.conn.now))
+        → IfOk result (λ m. m ≡ counts (old_of (held InTables (state S.Store tx.old.conn.now)))) }
     ensures kept { KeepsUnderway S.Store tx.old.conn.now tx.new.conn.now }
     ensures same_reference { tx.new.conn.ghost_name ≡ tx.old.conn.ghost_name }
     ensures survives { LastsUncommitted S.Store tx.old.conn.now tx.new.conn.now }
@@ -80,8 +84,8 @@ pub(crate) fn rewrite<S: Alter, W: Watch>(
     ensures made { HasCleanDisk (state S.Store tx.new.conn.now)
         → HoldsOldRegistry (state S.Store tx.old.conn.now).now
         → OnOk result
-        (IsReady (state S.Store tx.new.conn.now)
-        × StandsFor (held (state S.Store tx.new.conn.now))
+        (IsReady InTables (state S.Store tx.new.conn.now)
+        × StandsFor (held InTables (state S.Store tx.new.conn.now))
         (old_world_in (state S.Store tx.old.conn.now).now)) }
     ensures counted { HasCleanDisk (state S.Store tx.new.conn.now)
         → HoldsOldRegistry (state S.Store tx.old.conn.now).now

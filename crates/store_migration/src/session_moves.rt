@@ -3,6 +3,7 @@ ghost use Rattle.std.specs.Prelude.{◌≡◌, ◌<◌, ◌^◌, length, find, o
 ghost use Rattle.sqlite.specs.State.{HasCleanDisk, KeepsCommit};
 ghost use Rattle.sqlite.specs.Held.{state};
 ghost use Rattle.store_schema.specs.Rows.{bytes_at};
+ghost use Rattle.store_contents.specs.Layouts.{InTables};
 ghost use Rattle.store_statements.specs.Keys.{of_session, has_start};
 ghost use Rattle.store_statements.specs.Changes.{with_size};
 ghost use Rattle.store_statements.specs.Clauses.{KeepsInside, LastsUncommitted};
@@ -32,14 +33,15 @@ fn fill<S: Alter>(
 ) -> Result<(), Fault>
     requires number_fits { number < 2 ^ 63 }
     requires fits { length bytes.now < 2 ^ 63 }
-    ensures filled { HasCleanDisk (state S.Store tx.new.conn.now) → IsReady (state S.Store tx.old.conn.now)
-        → find (has_start repo.now number 0) (held (state S.Store tx.old.conn.now)).pieces ≡ None
+    ensures filled { HasCleanDisk (state S.Store tx.new.conn.now)
+        → IsReady InTables (state S.Store tx.old.conn.now)
+        → find (has_start repo.now number 0) (held InTables (state S.Store tx.old.conn.now)).pieces ≡ None
         → OnOk result
-        (IsReady (state S.Store tx.new.conn.now) × PieceStored
+        (IsReady InTables (state S.Store tx.new.conn.now) × PieceStored
         (uploads_changed (of_session repo.now number) (with_size (length bytes.now))
-        (held (state S.Store tx.old.conn.now)))
-        (held (state S.Store tx.new.conn.now)) repo.now number 0 bytes.now) }
-    ensures kept { KeepsInside S.Store tx.old.conn.now tx.new.conn.now }
+        (held InTables (state S.Store tx.old.conn.now)))
+        (held InTables (state S.Store tx.new.conn.now)) repo.now number 0 bytes.now) }
+    ensures kept { KeepsInside S.Store InTables tx.old.conn.now tx.new.conn.now }
     ensures same_reference { tx.new.conn.ghost_name ≡ tx.old.conn.ghost_name }
     ensures survives { LastsUncommitted S.Store tx.old.conn.now tx.new.conn.now }
 {
@@ -62,14 +64,17 @@ fn add_session<S: Alter>(
 ) -> Result<(), Fault>
     requires number_fits { number < 2 ^ 63 }
     requires fits { length bytes.now < 2 ^ 63 }
-    ensures stored { HasCleanDisk (state S.Store tx.new.conn.now) → IsReady (state S.Store tx.old.conn.now)
-        → find (of_session repo.now number) (held (state S.Store tx.old.conn.now)).uploads ≡ None
-        → find (has_start repo.now number 0) (held (state S.Store tx.old.conn.now)).pieces ≡ None
+    ensures stored { HasCleanDisk (state S.Store tx.new.conn.now)
+        → IsReady InTables (state S.Store tx.old.conn.now)
+        → find (of_session repo.now number) (held InTables (state S.Store tx.old.conn.now)).uploads ≡ None
+        → find (has_start repo.now number 0) (held InTables (state S.Store tx.old.conn.now)).pieces ≡ None
         → OnOk result
-        (IsReady (state S.Store tx.new.conn.now) × SessionStored (held (state S.Store tx.old.conn.now))
-        (held (state S.Store tx.new.conn.now)) repo.now number bytes.now) }
-    ensures kept { HasCleanDisk (state S.Store tx.new.conn.now) → IsReady (state S.Store tx.old.conn.now)
-        → find (of_session repo.now number) (held (state S.Store tx.old.conn.now)).uploads ≡ None
+        (IsReady InTables (state S.Store tx.new.conn.now)
+        × SessionStored (held InTables (state S.Store tx.old.conn.now))
+        (held InTables (state S.Store tx.new.conn.now)) repo.now number bytes.now) }
+    ensures kept { HasCleanDisk (state S.Store tx.new.conn.now)
+        → IsReady InTables (state S.Store tx.old.conn.now)
+        → find (of_session repo.now number) (held InTables (state S.Store tx.old.conn.now)).uploads ≡ None
         → KeepsCommit (state S.Store tx.old.conn.now) (state S.Store tx.new.conn.now) }
     ensures same_reference { tx.new.conn.ghost_name ≡ tx.old.conn.ghost_name }
     ensures survives { LastsUncommitted S.Store tx.old.conn.now tx.new.conn.now }
@@ -95,18 +100,20 @@ fn move_found<S: Alter>(
 ) -> Result<(), Fault>
     requires number_fits { number < 2 ^ 63 }
     requires fits { length bytes.now < 2 ^ 63 }
-    ensures moved { HasCleanDisk (state S.Store tx.new.conn.now) → IsReady (state S.Store tx.old.conn.now)
-        → IsUnderway (held (state S.Store tx.old.conn.now))
+    ensures moved { HasCleanDisk (state S.Store tx.new.conn.now)
+        → IsReady InTables (state S.Store tx.old.conn.now)
+        → IsUnderway (held InTables (state S.Store tx.old.conn.now))
         → option_map (λ r. bytes_at r 4)
-        (find (of_session repo.now number) (old_of (held (state S.Store tx.old.conn.now))).sessions)
+        (find (of_session repo.now number) (old_of (held InTables (state S.Store tx.old.conn.now))).sessions)
         ≡ Some bytes.now
         → OnOk result
-        (IsReady (state S.Store tx.new.conn.now) × Moves (without_session repo.now number)
-        (held (state S.Store tx.old.conn.now)) (held (state S.Store tx.new.conn.now))) }
-    ensures kept { HasCleanDisk (state S.Store tx.new.conn.now) → IsReady (state S.Store tx.old.conn.now)
-        → IsUnderway (held (state S.Store tx.old.conn.now))
+        (IsReady InTables (state S.Store tx.new.conn.now) × Moves (without_session repo.now number)
+        (held InTables (state S.Store tx.old.conn.now)) (held InTables (state S.Store tx.new.conn.now))) }
+    ensures kept { HasCleanDisk (state S.Store tx.new.conn.now)
+        → IsReady InTables (state S.Store tx.old.conn.now)
+        → IsUnderway (held InTables (state S.Store tx.old.conn.now))
         → option_map (λ r. bytes_at r 4)
-        (find (of_session repo.now number) (old_of (held (state S.Store tx.old.conn.now))).sessions)
+        (find (of_session repo.now number) (old_of (held InTables (state S.Store tx.old.conn.now))).sessions)
         ≡ Some bytes.now
         → KeepsCommit (state S.Store tx.old.conn.now) (state S.Store tx.new.conn.now) }
     ensures same_reference { tx.new.conn.ghost_name ≡ tx.old.conn.ghost_name }

@@ -13,6 +13,7 @@ use Rattle.store_schema.specs.Rows.{bytes_at, HaveIds}
 use Rattle.store_schema.specs.Layout.{tree_of, rows_of}
 use Rattle.store_schema.specs.Beside.{Keeps, Comes, IsNewBeside, registry_names, registry_tables}
 use Rattle.store_contents.specs.Contents.{AreContentRows, AreApart, content_rows}
+use Rattle.store_contents.specs.Layouts.{InTables}
 use Rattle.store_statements.specs.Tables.{Tables, AreTables, IsEmptyBeside, new_tables}
 use Rattle.store_statements.proofs.NewTables.{are_new}
 use Rattle.store_statements.specs.Known.{KnowsRegistry}
@@ -31,13 +32,16 @@ none_in before db table it =
     ap db.trees tree ∙ it.empty
 
 module _ (before : List Table) (db : Database) (made : AllByRecursion (IsNewBeside before db) registry_tables) where
-  no_rows : tables_in db ≡ new_tables [] (beside_in db)
+  no_rows : tables_in InTables db ≡ new_tables [] (beside_in db)
   no_rows = λ i. record {
+    number = 2;
     version = none_in before db version_table made.0 i;
     repos = none_in before db repos_table made.1.0 i;
     grants = none_in before db grants_table made.1.1.0 i;
     tags = none_in before db tags_table made.1.1.1.0 i;
     contents = λ id. option_map (λ r. bytes_at r 4) (find (has_rowid id) (none_in before db contents_table made.1.1.1.1.0 i));
+    places = [];
+    packs = [];
     blobs = none_in before db blob_links_table made.1.1.1.1.1.0 i;
     manifests = none_in before db manifest_links_table made.1.1.1.1.1.1.0 i;
     uploads = none_in before db uploads_table made.1.1.1.1.1.1.1.0 i;
@@ -45,7 +49,7 @@ module _ (before : List Table) (db : Database) (made : AllByRecursion (IsNewBesi
     beside = beside_in db;
   }
 
-  holds_none : KnowsRegistry db.schema → HoldsTables db
+  holds_none : KnowsRegistry InTables db.schema → HoldsTables InTables db
   holds_none known =
       let none : content_rows db ≡ [] = none_in before db contents_table made.1.1.1.1.0 in
       record {
@@ -81,13 +85,13 @@ module _ (first : Database) (mid new : State) (comes : Comes registry_names regi
         kept = keeps left;
         fresh = λ known alone.
             let none = no_rows first.schema.tables mid.now comes.made in
-            let holds = holds_none first.schema.tables mid.now comes.made (subst KnowsRegistry left.schema known) in
+            let holds = holds_none first.schema.tables mid.now comes.made (subst (KnowsRegistry InTables) left.schema known) in
             let c = version_by mid new (Ok n) (record { inside = inside; holds = holds }) ran in
             record {
               ready = c.ready;
-              version = came_two (held mid).version (held new).version c.id c.puts (ap (λ (t : Tables). t.version) none);
+              version = came_two (held InTables mid).version (held InTables new).version c.id c.puts (ap (λ (t : Tables). t.version) none);
               beside = alone;
-              tables = c.others ∙ ap (λ (t : Tables). record t { version = (held new).version }) none ∙ ap (new_tables (held new).version) (sym (ap (λ (t : Tables). t.beside) c.others));
+              tables = c.others ∙ ap (λ (t : Tables). record t { version = (held InTables new).version }) none ∙ ap (new_tables (held InTables new).version) (sym (ap (λ (t : Tables). t.beside) c.others));
             };
       }
 
@@ -95,5 +99,5 @@ module _ (first : Database) (mid new : State) (comes : Comes registry_names regi
 pub opened_beside : (first : Database) (mid end : State) → IsMadeBeside first mid → Shows mid end mid.now mid.now false → IsOpenedBeside first end
 opened_beside first mid end it shows = record {
   kept = subst (Keeps first) (sym shows.now_is) it.kept;
-  stands = λ known alone. makes_none mid end (it.fresh (subst (λ (d : Database). KnowsRegistry d.schema) shows.now_is known) (subst (λ (d : Database). IsEmptyBeside (beside_in d)) shows.now_is alone)) shows;
+  stands = λ known alone. makes_none mid end (it.fresh (subst (λ (d : Database). KnowsRegistry InTables d.schema) shows.now_is known) (subst (λ (d : Database). IsEmptyBeside (beside_in d)) shows.now_is alone)) shows;
 }

@@ -10,6 +10,7 @@ use Rattle.sqlite_schema.specs.Rules.{parent_key}
 use Rattle.store_schema.specs.Schema.{fresh_schema, to_repos}
 use Rattle.store_schema.proofs.Fresh.{version_stands, repos_stand, grants_stand, tags_stand, blob_links_stand, manifest_links_stand, uploads_stand, pieces_stand, grants_alone, tags_alone, blob_links_alone, manifest_links_alone, uploads_alone, pieces_alone}
 use Rattle.store_contents.proofs.Fresh.{knows_contents}
+use Rattle.store_contents.specs.Layouts.{InTables}
 use Rattle.store_statements.specs.Known.{KnowsRegistry, KnowsChildren, NamesRepo, repo_key, IsStill, AreApart, trees_of}
 use Rattle.store_opening.proofs.FreshTexts.{repo_texts, grant_texts, tag_texts, blob_texts, manifest_texts, upload_texts, piece_texts, version_texts}
 
@@ -68,9 +69,10 @@ still : IsStill fresh_schema
 unfolding joined everything same_name
 still tree x y = refl
 
-pub knows_registry : KnowsRegistry fresh_schema
+pub knows_registry : KnowsRegistry InTables fresh_schema
 knows_registry = record {
   contents = knows_contents;
+  further = tt;
   repos = repos_stand;
   grants = grants_stand;
   tags = tags_stand;

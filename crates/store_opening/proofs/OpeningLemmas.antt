@@ -10,6 +10,7 @@ use Rattle.sqlite_schema.specs.Names.{same_name}
 use Rattle.store_schema.specs.Schema.{no_schema, version_table}
 use Rattle.store_schema.specs.Making.{IsEmptyWith}
 use Rattle.store_schema.specs.Layout.{Stands, placed}
+use Rattle.store_contents.specs.Layouts.{InTables}
 use Rattle.store_statements.specs.Held.{IsSettled, HoldsTables, held}
 use Rattle.store_statements.specs.Registry.{IsOfSchemaTwo}
 use Rattle.store_opening.specs.Opening.{IsIdle, KnowsVersion, HoldsRegistry, has_version_table}
@@ -61,14 +62,14 @@ all_pass : (rows : List Row) → filter (passes [] []) rows ≡ rows
 all_pass [] = refl
 all_pass (r ∷ rows) = ap (λ xs. r ∷ xs) (all_pass rows)
 
-pub knows_version : (db : Database) → HoldsTables db → KnowsVersion db.schema
+pub knows_version : (db : Database) → HoldsTables InTables db → KnowsVersion db.schema
 knows_version db h = record { stands = h.known.version; find = h.known.version_texts.find }
 
 pub shows_version : (old new : State) (r : Answer) → KnowsVersion old.now.schema → IfOk r (λ rows. Shown version_find [] old new rows.items)
-    → IfOk r (λ rows. IsPermutation (map {B = Row} (λ r. column r 1 ∷ []) (held old).version) rows.items)
+    → IfOk r (λ rows. IsPermutation (map {B = Row} (λ r. column r 1 ∷ []) (held InTables old).version) rows.items)
 shows_version old new (Err e) h shown = tt
 shows_version old new (Ok rows) h shown =
-    subst (λ (xs : List Row). IsPermutation (map {B = Row} (λ r. column r 1 ∷ []) xs) rows.items) (all_pass (held old).version)
+    subst (λ (xs : List Row). IsPermutation (map {B = Row} (λ r. column r 1 ∷ []) xs) rows.items) (all_pass (held InTables old).version)
     (shows old.now.schema version_find _ (tree_of old.now.schema version_table) [] (col 1 1 ∷ []) [] old new rows.items refl h.find h.stands.stored shown)
 
 -- what the rows say that were answered, the table's say, and the other way round
@@ -145,7 +146,7 @@ pub is_marked : (schema : Schema) → Stands schema version_table → has_versio
 unfolding same_name
 is_marked schema it = has_position (λ t. same_name t.name (codes "registry_schema")) 0 it.at schema.tables (placed schema version_table) it.place refl
 
-pub settled : (s : State) → IsIdle s → HoldsRegistry s.now → IsSettled s
+pub settled : (s : State) → IsIdle s → HoldsRegistry s.now → IsSettled InTables s
 settled s idle it = record { is_open = idle.is_open; autocommit = idle.autocommit; committed = idle.committed; holds = it.holds; agree = it.agree }
 
 -- ---- what is answered to the number that is found

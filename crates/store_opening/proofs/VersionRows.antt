@@ -12,6 +12,7 @@ use Rattle.sqlite.specs.State.{State, ExecutesInside}
 use Rattle.store_schema.specs.Schema.{version_table}
 use Rattle.store_schema.specs.Layout.{tree_of, placed, rows_of}
 use Rattle.store_schema.proofs.Writes.{either, inserts, adds_row, AddsRow, keeps_others}
+use Rattle.store_contents.specs.Layouts.{InTables}
 use Rattle.store_statements.specs.Tables.{AreTables}
 use Rattle.store_statements.specs.VersionTexts.{version_add}
 use Rattle.store_statements.specs.Known.{KnowsRegistry}
@@ -27,10 +28,10 @@ cast_version schema = rw (either, either)
 same_tables : (t : Rattle.store_statements.specs.Tables.Tables) (rows : List Row) → AreTables t → AreTables (record t { version = rows })
 same_tables t rows a = record { repos = a.repos; grants = a.grants; tags = a.tags; blobs = a.blobs; manifests = a.manifests; uploads = a.uploads; pieces = a.pieces }
 
-pub version_by : (old new : State) (r : Result ℕ Error) → IsReady old → ExecutesInside 0 version_add [] old new r → OnOk r (VersionComes old new)
+pub version_by : (old new : State) (r : Result ℕ Error) → IsReady InTables old → ExecutesInside 0 version_add [] old new r → OnOk r (VersionComes InTables old new)
 version_by old new (Err e) is ran = tt
 version_by old new (Ok n) is ran = record {
-  ready = record { inside = ran.1.mode; holds = record { known = subst KnowsRegistry (sym it.ran.schema_is) is.holds.known; contents = contents_beside_version old.now new.now is.holds.known keeps is.holds.contents; tables = subst AreTables (sym now) (same_tables (held old) _ is.holds.tables) } };
+  ready = record { inside = ran.1.mode; holds = record { known = subst (KnowsRegistry InTables) (sym it.ran.schema_is) is.holds.known; contents = contents_beside_version old.now new.now is.holds.known keeps is.holds.contents; tables = subst AreTables (sym now) (same_tables (held InTables old) _ is.holds.tables) } };
   id = new.last_rowid;
   puts = record { before = it.puts.before; after = it.puts.after; olds_are = it.puts.olds_are; news_are = ap (λ s. new.now.trees (tree_of s version_table)) it.ran.schema_is ∙ it.puts.news_are };
   others = now;
@@ -49,5 +50,5 @@ version_by old new (Ok n) is ran = record {
     keeps : Rattle.store_schema.specs.Layout.KeepsOthers version_table old.now new.now
     keeps = keeps_others version_table old.now new.now (tree_of schema version_table) refl it.ran.schema_is it.tables
 
-    now : held new ≡ record (held old) { version = (held new).version }
+    now : held InTables new ≡ record (held InTables old) { version = (held InTables new).version }
     now = only_version old.now new.now is.holds.known keeps (rows_of new.now version_table) refl

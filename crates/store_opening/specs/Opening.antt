@@ -5,6 +5,7 @@ use Rattle.sqlite.specs.Schema.{Schema}
 use Rattle.sqlite.specs.Effect.{Database}
 use Rattle.sqlite.specs.State.{State}
 use Rattle.sqlite_schema.specs.Names.{table_named}
+use Rattle.store_contents.specs.Layouts.{InTables}
 use Rattle.store_statements.specs.Tables.{IsEmptyBeside}
 use Rattle.store_statements.specs.Registry.{Agree, IsOfSchemaTwo}
 use Rattle.registry_model.specs.World.{no_world}
@@ -20,11 +21,11 @@ use Rattle.store_statements.specs.Steps.{IsNew}
 
 -- what the rows of `registry_schema` say
 abbrev pub versions_in : Database → List Row
-versions_in db = map {B = Row} (λ r. column r 1 ∷ []) (tables_in db).version
+versions_in db = map {B = Row} (λ r. column r 1 ∷ []) (tables_in InTables db).version
 
 -- one row says that the tables are of schema 2
 abbrev pub SaysTwo : Database → Type 0
-SaysTwo db = IsOfSchemaTwo (tables_in db).version
+SaysTwo db = IsOfSchemaTwo (tables_in InTables db).version
 
 -- the table stands, and the text that asks it for its rows means that
 pub record KnowsVersion (schema : Schema) : Type 0 where
@@ -34,8 +35,8 @@ pub record KnowsVersion (schema : Schema) : Type 0 where
 
 -- a registry's tables, of schema 2, which stand for a world
 pub record HoldsRegistry (db : Database) : Type 0 where
-  pub holds : HoldsTables db
-  pub agree : Agree (tables_in db)
+  pub holds : HoldsTables InTables db
+  pub agree : Agree (tables_in InTables db)
 
 -- open, with nothing uncommitted
 pub record IsIdle (s : State) : Type 0 where
@@ -53,9 +54,10 @@ has_version_table schema = is_some (table_named schema (codes "registry_schema")
 -- a repository, the tables are new
 pub record IsMadeBeside (old : Database) (new : State) : Type 0 where
   pub kept : Keeps old new.now
-  pub fresh : KnowsRegistry new.now.schema → IsEmptyBeside (beside_in new.now) → IsNew new
+  pub fresh : KnowsRegistry InTables new.now.schema → IsEmptyBeside (beside_in new.now) → IsNew InTables new
 
 -- the same once it is committed: there they stand for the empty world
 pub record IsOpenedBeside (old : Database) (new : State) : Type 0 where
   pub kept : Keeps old new.now
-  pub stands : KnowsRegistry new.now.schema → IsEmptyBeside (beside_in new.now) → SettlesOn new no_world
+  pub stands : KnowsRegistry InTables new.now.schema → IsEmptyBeside (beside_in new.now)
+      → SettlesOn InTables new no_world

@@ -7,6 +7,7 @@ ghost use Rattle.store_schema.specs.Schema.{no_schema};
 ghost use Rattle.store_schema.specs.Making.{IsEmptyWith, IsOther};
 ghost use Rattle.store_schema.specs.Beside.{AreFree, Comes, registry_names, registry_tables};
 ghost use Rattle.registry_model.specs.World.{no_world};
+ghost use Rattle.store_contents.specs.Layouts.{InTables};
 ghost use Rattle.store_statements.specs.Clauses.{Lasts, LastsUncommitted};
 ghost use Rattle.store_statements.specs.Held.{IsReady, SettlesOn, IsBack};
 ghost use Rattle.store_opening.specs.Opening.{IsIdle, IsMadeBeside, IsOpenedBeside};
@@ -36,8 +37,10 @@ pub fn fault_in_making(error: Error) -> OpenFault
 fn add_version<S: Alter>(tx: &mut Transaction<'_, S>) -> Result<(), OpenFault>
     requires begun { HasCleanDisk (state S.Store tx.old.conn.now)
         → IsTrue (state S.Store tx.old.conn.now).in_transaction }
-    ensures added { HasCleanDisk (state S.Store tx.new.conn.now) → IsReady (state S.Store tx.old.conn.now)
-        → OnOk result (VersionComes (state S.Store tx.old.conn.now) (state S.Store tx.new.conn.now)) }
+    ensures added { HasCleanDisk (state S.Store tx.new.conn.now)
+        → IsReady InTables (state S.Store tx.old.conn.now)
+        → OnOk result
+        (VersionComes InTables (state S.Store tx.old.conn.now) (state S.Store tx.new.conn.now)) }
     ensures wanting { IfErr result IsWanting }
     ensures beside { HasCleanDisk (state S.Store tx.new.conn.now)
         → (first : Database) → Comes registry_names registry_tables first (state S.Store tx.old.conn.now).now
@@ -61,7 +64,7 @@ fn make<S: Alter>(tx: &mut Transaction<'_, S>) -> Result<(), OpenFault>
         → IsTrue (state S.Store tx.old.conn.now).in_transaction }
     ensures made { HasCleanDisk (state S.Store tx.new.conn.now)
         → IsEmptyWith no_schema (state S.Store tx.old.conn.now).now
-        → OnOk result (IsNew (state S.Store tx.new.conn.now)) }
+        → OnOk result (IsNew InTables (state S.Store tx.new.conn.now)) }
     ensures wanting { HasCleanDisk (state S.Store tx.new.conn.now)
         → IsEmptyWith no_schema (state S.Store tx.old.conn.now).now → IfErr result IsWanting }
     ensures unnumbered { IfErr result IsUnnumbered }
@@ -88,7 +91,7 @@ fn make<S: Alter>(tx: &mut Transaction<'_, S>) -> Result<(), OpenFault>
 /// is taken.
 pub(crate) fn create<S: Alter>(conn: &mut Connection<S>) -> Result<(), OpenFault>
     ensures made { HasCleanDisk (state S.Store conn.new) → IsEmptyWith no_schema (state S.Store conn.old).now
-        → OnOk result (SettlesOn (state S.Store conn.new) no_world) }
+        → OnOk result (SettlesOn InTables (state S.Store conn.new) no_world) }
     ensures wanting { HasCleanDisk (state S.Store conn.new)
         → IsEmptyWith no_schema (state S.Store conn.old).now → IfErr result IsWanting }
     ensures back { HasCleanDisk (state S.Store conn.new) → IsIdle (state S.Store conn.old)

@@ -6,6 +6,7 @@ ghost use Rattle.store_schema.specs.Schema.{no_schema};
 ghost use Rattle.store_schema.specs.Making.{IsEmptyWith};
 ghost use Rattle.store_schema.specs.Beside.{AreFree, registry_names};
 ghost use Rattle.registry_model.specs.World.{no_world};
+ghost use Rattle.store_contents.specs.Layouts.{InTables};
 ghost use Rattle.store_statements.specs.Clauses.{Lasts};
 ghost use Rattle.store_statements.specs.Held.{HoldsTables, StaysSettled, SettlesOn, IsBack};
 ghost use Rattle.store_opening.specs.Opening.{IsIdle, IsOpenedBeside, HoldsRegistry, SaysTwo, versions_in, has_version_table};
@@ -67,20 +68,20 @@ fn only_two(found: Result<i64, OpenFault>) -> Result<(), OpenFault>
 /// says it, the tables are made only where each of their names is free, and all that was there stays.
 pub fn take_up<S: Alter>(conn: &mut Connection<S>) -> Result<(), OpenFault>
     ensures made { HasCleanDisk (state S.Store conn.new) → IsEmptyWith no_schema (state S.Store conn.old).now
-        → OnOk result (SettlesOn (state S.Store conn.new) no_world) }
+        → OnOk result (SettlesOn InTables (state S.Store conn.new) no_world) }
     ensures found { HasCleanDisk (state S.Store conn.new) → IsIdle (state S.Store conn.old)
         → HoldsRegistry (state S.Store conn.old).now
-        → OnOk result (StaysSettled (state S.Store conn.old) (state S.Store conn.new)) }
+        → OnOk result (StaysSettled InTables (state S.Store conn.old) (state S.Store conn.new)) }
     ensures unmade { HasCleanDisk (state S.Store conn.new)
         → IsEmptyWith no_schema (state S.Store conn.old).now → IfErr result IsWanting }
     ensures wanting { HasCleanDisk (state S.Store conn.new) → HoldsRegistry (state S.Store conn.old).now
         → IfErr result IsWanting }
-    ensures two { HasCleanDisk (state S.Store conn.new) → HoldsTables (state S.Store conn.old).now
+    ensures two { HasCleanDisk (state S.Store conn.new) → HoldsTables InTables (state S.Store conn.old).now
         → OnOk result (SaysTwo (state S.Store conn.old).now) }
-    ensures other { HasCleanDisk (state S.Store conn.new) → HoldsTables (state S.Store conn.old).now
+    ensures other { HasCleanDisk (state S.Store conn.new) → HoldsTables InTables (state S.Store conn.old).now
         → (n : ℤ) → ShowsAlone (versions_in (state S.Store conn.old).now) n → n ≢ pos 2
         → IfErr result (IsWantingOr (OpenFault.Schema n)) }
-    ensures unsaid { HasCleanDisk (state S.Store conn.new) → HoldsTables (state S.Store conn.old).now
+    ensures unsaid { HasCleanDisk (state S.Store conn.new) → HoldsTables InTables (state S.Store conn.old).now
         → ((n : ℤ) → ShowsAlone (versions_in (state S.Store conn.old).now) n → ⊥)
         → IfErr result (IsWantingOr OpenFault.NotARegistry) }
     ensures asked { HasCleanDisk (state S.Store conn.new)

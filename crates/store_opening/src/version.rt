@@ -4,6 +4,7 @@ ghost use Rattle.std.specs.List.Sorted.{IsPermutation};
 ghost use Rattle.sqlite.specs.State.{HasCleanDisk, IsUnchanged};
 ghost use Rattle.sqlite.specs.Held.{state};
 ghost use Rattle.sqlite.specs.Order.{column};
+ghost use Rattle.store_contents.specs.Layouts.{InTables};
 ghost use Rattle.store_statements.specs.Clauses.{LastsUncommitted};
 ghost use Rattle.store_statements.specs.Held.{LeavesAsWas, held};
 ghost use Rattle.store_opening.specs.Opening.{KnowsVersion, versions_in};
@@ -28,7 +29,7 @@ fn fault_in_reading(error: Error) -> OpenFault
 fn version_rows<S: Alter>(conn: &mut Connection<S>) -> Result<Vec<Row>, Error>
     ensures shown { HasCleanDisk (state S.Store conn.new) → KnowsVersion (state S.Store conn.old).now.schema
         → IfOk result
-        (λ rows. IsPermutation (map (λ r. column r 1 ∷ []) (held (state S.Store conn.old)).version)
+        (λ rows. IsPermutation (map (λ r. column r 1 ∷ []) (held InTables (state S.Store conn.old)).version)
         rows.items) }
     ensures same { HasCleanDisk (state S.Store conn.new)
         → OnOk result (IsUnchanged (state S.Store conn.old) (state S.Store conn.new)) }

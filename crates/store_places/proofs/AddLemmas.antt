@@ -3,7 +3,7 @@ use Rattle.std.proofs.Common.{◌≡◌, ℕ, ℤ, pos, List, [], ◌∷◌, ◌
 use Rattle.std.specs.Prelude.{◌<◌, ◌==◌, ◌&&◌, filter, find, is_some, IsTrue}
 use Rattle.std.specs.Ordering.{int_eq}
 use Rattle.std.proofs.lemmas.Bool.{eqb-true}
-use Rattle.store_statements.proofs.SessionKeys.{number_turned}
+use Rattle.store_contents.proofs.Numbers.{number_turned}
 use Rattle.std.specs.List.{AllByRecursion}
 use Rattle.sqlite.specs.declared.types.Value.TheVariants.{Null, Int, Text}
 use Rattle.sqlite.specs.Order.{Row}
@@ -19,9 +19,10 @@ use Rattle.store_schema.specs.Layout.{tree_of, placed}
 use Rattle.store_schema.proofs.Lists.{all_middle, ascending_middle}
 use Rattle.store_schema.proofs.Ids.{not_taken_found, int_eq-sym}
 use Rattle.store_schema.proofs.Writes.{either, inserts, adds_row, AddsRow, keeps_others, rows_in}
-use Rattle.store_places.specs.Tables.{pack_table, contents_table, places_table}
-use Rattle.store_places.specs.Texts.{KnowsPlaces, content_add, content_add_terms, place_add, place_add_terms}
-use Rattle.store_places.specs.Places.{HoldsPlaces, IsContentRow, IsPlaceRow, AreOwned, AreBefore, HaveStarts, same_place, of_content, IsInside, PutsContent, PutsPlace, content_columns, place_columns, content_rows, place_rows, has_content}
+use Rattle.store_contents.specs.PlaceTables.{pack_table, contents_table, places_table}
+use Rattle.store_contents.specs.PlaceTexts.{KnowsPlaces, content_add, content_add_terms, place_add, place_add_terms}
+use Rattle.store_contents.specs.Places.{HoldsPlaces, IsContentRow, IsPlaceRow, AreOwned, HaveStarts, same_place, of_content, content_rows, place_rows}
+use Rattle.store_places.specs.Places.{AreBefore, IsInside, PutsContent, PutsPlace, content_columns, place_columns, has_content}
 
 -- ---- rows that are found still
 

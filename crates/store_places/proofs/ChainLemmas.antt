@@ -10,7 +10,8 @@ use Rattle.sqlite.specs.Held.{Held, state}
 use Rattle.store_schema.proofs.Selects.{commit_then, survives_both, was_clean}
 use Rattle.registry_pack.specs.declared.extent.Extent.{Extent}
 use Rattle.registry_pack.specs.Extents.{total_of}
-use Rattle.store_places.specs.Places.{IsInside, AreBefore, PutsPlace, PutsPlaces, has_content, of_content, place_rows}
+use Rattle.store_contents.specs.Places.{of_content, place_rows}
+use Rattle.store_places.specs.Places.{IsInside, AreBefore, PutsPlace, PutsPlaces, has_content}
 use Rattle.store_places.proofs.WorldLemmas.{AreSome, before_put, rows_kept}
 
 survives_here : (s : State) → Survives s s (λ _. ⊥)

@@ -2,13 +2,5 @@ pub mod AddLemmas
 pub mod Sorting
 pub mod WorldLemmas
 pub mod ChainLemmas
-pub mod CommitLemmas
 pub mod RemoveLemmas
-pub mod JointLemmas
-pub mod ReadLemmas
-pub mod ExtentRows
-pub mod ExtentLemmas
-pub mod PackLemmas
-pub mod KnownTables
-pub mod OpeningLemmas
-pub mod AgeLemmas
+pub mod SourceLemmas

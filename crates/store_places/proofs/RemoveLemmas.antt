@@ -22,9 +22,10 @@ use Rattle.store_schema.proofs.Lists.{find_left}
 use Rattle.store_schema.proofs.Ids.{rowid_test, rowid_is, rowid_passed, int_eq-sym, int_eq_is}
 use Rattle.store_schema.proofs.Selects.{is_int, one_test}
 use Rattle.store_schema.proofs.Writes.{passes, deletes, removes, Removes as Takes, keeps_others, rows_in}
-use Rattle.store_places.specs.Tables.{pack_table, contents_table, places_table}
-use Rattle.store_places.specs.Texts.{KnowsPlaces, content_remove, place_remove, by_id, by_first}
-use Rattle.store_places.specs.Places.{HoldsPlaces, IsInside, IsContentRow, IsPlaceRow, AreOwned, HaveStarts, same_place, Removes, RemovesPlaces, RemovesRow, by_start, of_content, places_of, joined, bytes_in, content_rows, place_rows}
+use Rattle.store_contents.specs.PlaceTables.{pack_table, contents_table, places_table}
+use Rattle.store_contents.specs.PlaceTexts.{KnowsPlaces, content_remove, place_remove, by_id, by_first}
+use Rattle.store_contents.specs.Places.{HoldsPlaces, IsContentRow, IsPlaceRow, AreOwned, HaveStarts, same_place, by_start, of_content, places_of, joined, bytes_in, content_rows, place_rows}
+use Rattle.store_places.specs.Places.{IsInside, Removes, RemovesPlaces, RemovesRow}
 use Rattle.store_places.proofs.WorldLemmas.{around_both, around_contents, around_places}
 
 -- ---- the places

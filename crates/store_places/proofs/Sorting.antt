@@ -9,8 +9,9 @@ use Rattle.sqlite.specs.Order.{Row}
 use Rattle.sqlite_keyed.specs.Lists.{sort_by}
 use Rattle.sqlite_trees.proofs.ListLemmas.{all_weaker}
 use Rattle.store_schema.specs.Rows.{natural_at}
-use Rattle.store_statements.proofs.Sorting as sorting
-use Rattle.store_places.specs.Places.{AreBefore, by_start}
+use Rattle.store_contents.proofs.Sorting as sorting
+use Rattle.store_contents.specs.Places.{by_start}
+use Rattle.store_places.specs.Places.{AreBefore}
 
 pub starts_total : IsTotalOrder by_start
 starts_total = on_total (λ (r : Row). natural_at r 2) nat_cmp_total

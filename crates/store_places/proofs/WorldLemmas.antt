@@ -20,8 +20,9 @@ use Rattle.store_schema.proofs.Lists.{all_middle, find_middle}
 use Rattle.store_schema.proofs.Ids.{rowid_test, int_eq_is, int_eq_itself}
 use Rattle.registry_pack.specs.declared.extent.Extent.{Extent}
 use Rattle.registry_pack.specs.Extents.{bytes_at, total_of}
-use Rattle.store_places.specs.Tables.{contents_table, places_table}
-use Rattle.store_places.specs.Places.{HoldsPlaces, AreOwned, AreBefore, PutsContent, PutsPlace, PutsPlaces, Adds, KeepsAround, by_start, of_content, places_of, joined, bytes_of, bytes_in, runs_of, runs_at, content_columns, place_columns, content_rows, place_rows, has_content}
+use Rattle.store_contents.specs.PlaceTables.{contents_table, places_table}
+use Rattle.store_contents.specs.Places.{HoldsPlaces, AreOwned, by_start, of_content, places_of, joined, bytes_of, bytes_in, runs_of, content_rows, place_rows}
+use Rattle.store_places.specs.Places.{AreBefore, PutsContent, PutsPlace, PutsPlaces, Adds, KeepsAround, runs_at, content_columns, place_columns, has_content}
 use Rattle.store_places.proofs.Sorting.{sorted_last}
 
 -- ---- a content that is not there has no places

@@ -4,11 +4,15 @@ ghost use Rattle.std.specs.List.{AllByRecursion};
 ghost use Rattle.sqlite.specs.State.{HasCleanDisk, KeepsCommit, Survives};
 ghost use Rattle.sqlite.specs.Held.{state};
 ghost use Rattle.registry_pack.specs.Extents.{size_of, starts_at, total_of};
-ghost use Rattle.store_places.specs.Places.{IsInside, Adds, AreBefore, PutsContent, PutsPlace, PutsPlaces, has_content, of_content, place_rows};
+ghost use Rattle.store_contents.specs.Places.{of_content, place_rows};
+ghost use Rattle.hex.specs.Hex.{encode_lower};
+ghost use Rattle.store_places.specs.Places.{IsInside, Adds, AreBefore, PutsContent, PutsPlace, PutsPlaces, has_content};
 
+use crate::source::total;
 use oci_types::Fault;
 use registry_pack::Extent;
 use sqlite::{Alter, Transaction, params};
+use std::alloc::Global;
 use store_contents::{ContentId, done, fault_of};
 
 /// Puts the row of a content in under a new id, which is the answer. It has no places yet.
@@ -96,18 +100,6 @@ fn put_places<S: Alter>(
     Ok(())
 }
 
-/// How many bytes the extents have together.
-fn total(extents: &[Extent]) -> usize
-    requires fits { total_of extents.now < 2 ^ 63 }
-    ensures { result ≡ total_of extents.now }
-{
-    let mut total = 0;
-    for extent in extents {
-        total += extent.size();
-    }
-    total
-}
-
 /// Puts a content in whose bytes stand at these extents of the pack, under a new id, which is the answer. Its
 /// SHA-256 is given as 64 digits, as the column has it. That the bytes stand there, and last, is the caller's
 /// to see to, and so is that no other content has these bytes where that matters. No other content changes,
@@ -133,4 +125,28 @@ pub fn add_content<S: Alter>(
     let id = put_content(tx, sha256, total(extents))?;
     put_places(tx, id, extents)?;
     Ok(id)
+}
+
+/// As [`add_content`], with the SHA-256 as bytes (FIPS 180-4).
+pub fn add_hashed<S: Alter>(
+    alloc: Global,
+    tx: &mut Transaction<'_, S>,
+    hash: [u8; 32],
+    extents: &[Extent],
+) -> Result<ContentId, Fault>
+    requires fits { total_of extents.now < 2 ^ 63 }
+    requires some { AllByRecursion (λ e. 0 < size_of e) extents.now }
+    ensures added { HasCleanDisk (state S.Store tx.new.conn.now) → IsInside (state S.Store tx.old.conn.now)
+        → IfOk result
+        (λ it. Adds (state S.Store tx.old.conn.now).now (state S.Store tx.new.conn.now).now it.id
+        (encode_lower hash) extents.now × IsInside (state S.Store tx.new.conn.now)) }
+    ensures kept { HasCleanDisk (state S.Store tx.new.conn.now) → IsInside (state S.Store tx.old.conn.now)
+        → KeepsCommit (state S.Store tx.old.conn.now) (state S.Store tx.new.conn.now) }
+    ensures same_reference { tx.new.conn.ghost_name ≡ tx.old.conn.ghost_name }
+    ensures survives { Survives (state S.Store tx.old.conn.now) (state S.Store tx.new.conn.now) (λ _. ⊥) }
+{
+    let Ok(text) = hex::encode(alloc, hash) else {
+        return Err(Fault::Memory);
+    };
+    add_content(tx, text.as_str(), extents)
 }

@@ -1,25 +1,10 @@
-//! Contents that stand in a pack: the rows that say where, and a commit of rows together with the pack.
+//! Contents whose bytes stand in a pack: the rows that say where, inside a transaction.
 #![tactic(auto)]
 
 mod add;
-mod age;
-mod commit;
-mod deletion;
-mod opening;
-mod pack_row;
-mod piece;
-mod reading;
 mod removal;
-mod staged;
-#[cfg(test)]
-mod tests;
+mod source;
 
-pub use add::add_content;
-pub use age::raise_age;
-pub use deletion::delete_content;
-pub use opening::{PackFault, open_pack};
-pub use pack_row::{PackRow, put_pack_row, read_pack_row, set_age};
-pub use piece::write_piece;
-pub use reading::{extents_in_use, extents_of};
+pub use add::{add_content, add_hashed};
 pub use removal::remove_content;
-pub use staged::put_staged;
+pub use source::Source;

@@ -2,7 +2,8 @@
 ghost use Rattle.std.specs.Prelude.{◌≡◌, [], filter, OnOk};
 ghost use Rattle.sqlite.specs.State.{HasCleanDisk, KeepsCommit, Survives};
 ghost use Rattle.sqlite.specs.Held.{state};
-ghost use Rattle.store_places.specs.Places.{IsInside, Removes, RemovesPlaces, RemovesRow, of_content, place_rows};
+ghost use Rattle.store_contents.specs.Places.{of_content, place_rows};
+ghost use Rattle.store_places.specs.Places.{IsInside, Removes, RemovesPlaces, RemovesRow};
 
 use oci_types::Fault;
 use sqlite::{Alter, Transaction, params};

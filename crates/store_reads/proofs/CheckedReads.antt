@@ -5,6 +5,7 @@ use Rattle.sqlite_trees.specs.declared.store.Store.{Ghosts}
 use Rattle.sqlite.specs.State.{HasCleanDisk, IsUnchanged}
 use Rattle.sqlite.specs.Held.{Held, state}
 use Rattle.oci_types.specs.declared.fault.Fault.{Fault}
+use Rattle.store_contents.specs.Layouts.{Layout}
 use Rattle.store_statements.specs.Between.{Stays, ChangesNothing, FailsAsWas}
 use Rattle.store_statements.specs.Clauses.{Lasts}
 use Rattle.store_statements.specs.Held.{IsSettled, StaysSettled, LeavesAsWas, is_storage}
@@ -13,8 +14,8 @@ use Rattle.store_statements.proofs.CleanBefore.{was_clean}
 use Rattle.store_statements.proofs.SettledAfter.{stays_read, stays_failed, is_memory}
 use Rattle.store_statements.proofs.Transactions.{survives_all}
 
-module _ {S : Type 0} (g : Ghosts S) (old mid new : Held S) {A : Type 0} (found r : Result A Fault) (checks : Checked g mid new found r)
-    (same : ChangesNothing g old mid found) (failed : FailsAsWas g old mid found) where
+module _ {l : Layout} {S : Type 0} (g : Ghosts S) (old mid new : Held S) {A : Type 0} (found r : Result A Fault) (checks : Checked g mid new found r)
+    (same : ChangesNothing g l old mid found) (failed : FailsAsWas g l old mid found) where
   late : HasCleanDisk (state g new) → HasCleanDisk (state g mid)
   late = was_clean checks.survives
 
@@ -26,17 +27,17 @@ module _ {S : Type 0} (g : Ghosts S) (old mid new : Held S) {A : Type 0} (found 
   told_by T (Ok v) told so = subst (λ (x : Result A Fault). IfOk x T) told.0 so
   told_by T (Err f) told so = tt
 
-  pub tells : (T : A → Type 0) → (HasCleanDisk (state g mid) → IsSettled (state g old) → IfOk found T) → HasCleanDisk (state g new) → IsSettled (state g old) → IfOk r T
+  pub tells : (T : A → Type 0) → (HasCleanDisk (state g mid) → IsSettled l (state g old) → IfOk found T) → HasCleanDisk (state g new) → IsSettled l (state g old) → IfOk r T
   tells T so clean is = told_by T r checks.told (so (late clean) is)
 
-  stays_by : (out : Result A Fault) → IfOk out (λ v. (found ≡ Ok v) × (new ≡ mid)) → (r ≡ out) → HasCleanDisk (state g new) → IsSettled (state g old) → is_storage out ≡ false → StaysSettled (state g old) (state g new)
+  stays_by : (out : Result A Fault) → IfOk out (λ v. (found ≡ Ok v) × (new ≡ mid)) → (r ≡ out) → HasCleanDisk (state g new) → IsSettled l (state g old) → is_storage out ≡ false → StaysSettled l (state g old) (state g new)
   stays_by (Ok v) told is_out clean is off =
-      subst (λ (h : Held S). StaysSettled (state g old) (state g h)) (sym told.1)
+      subst (λ (h : Held S). StaysSettled l (state g old) (state g h)) (sym told.1)
       (stays_read (state g old) (state g mid) is (subst (λ (x : Result A Fault). OnOk x (IsUnchanged (state g old) (state g mid))) told.0 (same (late clean) is)))
   stays_by (Err f) told is_out clean is off =
       stays_failed (state g old) (state g mid) (state g new) is (left found (same (late clean) is) (failed (late clean) is)) (checks.memory clean (is_out ∙ ap Err (is_memory A f off))).1
 
-  pub stays : Stays g old new r
+  pub stays : Stays g l old new r
   stays clean is off = stays_by r checks.told refl clean is off
 
   pub lasts : Lasts g old mid → Lasts g old new

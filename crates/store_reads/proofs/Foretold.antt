@@ -14,17 +14,18 @@ use Rattle.registry_model.specs.Sessions.{opened, appended, finished}
 use Rattle.registry_model.specs.Manifests.{with_manifest, kind_in}
 use Rattle.registry_model.specs.Lookups.{blob_at, blob_size_at, session_size_at, manifest_size_at, tag_at, session_at, last_number_at, bytes_or_none, with_mounted}
 use Rattle.store_statements.specs.World.{world_of}
+use Rattle.store_contents.specs.Layouts.{Layout}
 use Rattle.store_statements.specs.Held.{tables_in, world_in, is_storage}
 use Rattle.store_reads.specs.declared.usage_change.Change.{Change}
 use Rattle.store_reads.specs.Usages.{Foretells, Turns, new_tags, or_untold}
 use Rattle.store_reads.proofs.UsageTurns.{change, tags_more, put_there, put_new, mount_there, open_new, append_there, end_there, end_new, manifest_there, manifest_new}
 
 -- of a database that stays
-pub earlier : (P : World → Type 0) (old mid : State) → mid.now ≡ old.now → P (world_in mid) → P (world_in old)
-earlier P old mid same = subst (λ db. P (world_of (tables_in db))) same
+pub earlier : (l : Layout) (P : World → Type 0) (old mid : State) → mid.now ≡ old.now → P (world_in l mid) → P (world_in l old)
+earlier l P old mid same = subst (λ db. P (world_of (tables_in l db))) same
 
-pub later : (P : World → Type 0) (old mid : State) → mid.now ≡ old.now → P (world_in old) → P (world_in mid)
-later P old mid same = subst (λ db. P (world_of (tables_in db))) (sym same)
+pub later : (l : Layout) (P : World → Type 0) (old mid : State) → mid.now ≡ old.now → P (world_in l old) → P (world_in l mid)
+later l P old mid same = subst (λ db. P (world_of (tables_in l db))) (sym same)
 
 -- ---- what a length tells
 

@@ -17,6 +17,7 @@ use Rattle.registry_model.specs.Pruning.{is_among, without_blobs}
 use Rattle.registry_model.specs.Manifests.{kind_in, without_manifest, without_tag}
 use Rattle.registry_model.specs.Lookups.{blob_size_at, manifest_size_at, tag_at}
 use Rattle.registry_model.proofs.BlobsTakenAway.{left_blobs, without_one_more}
+use Rattle.store_contents.specs.Layouts.{Layout}
 use Rattle.store_statements.specs.Held.{world_in}
 use Rattle.store_reads.specs.declared.usage_change.Change.{Change}
 use Rattle.store_reads.specs.Usages.{Foretells, AreNaming, Turns, gone_too}
@@ -73,11 +74,11 @@ module _ (w : World) (name : Text) (ds : List Text) (sorted : IsStrictlySortedBy
   more i d size (Some before) (Some c) low is told made = subst (Foretells w name (so_far (i + 1))) (sym made) (one_more i d size before low is told)
 
 -- the next of the digests, of a database that stays
-pub more_gone : (old mid : State) (name : Text) (ds : List Text) (i : ℕ) (digest : Text) (size : Option ℕ) (o n : Option Change) → IsStrictlySortedBy text_cmp ds → mid.now ≡ old.now → i < length ds
-    → digest ≡ get_or ds i digest → size ≡ blob_size_at (world_in mid) name digest → IfSome o (Foretells (world_in old) name (λ r. without_blobs r (take i ds)))
-    → IfSome n (λ c. IsSomeAnd o (λ before. c ≡ gone_too size before)) → IfSome n (Foretells (world_in old) name (λ r. without_blobs r (take (i + 1) ds)))
-more_gone old mid name ds i digest size o n sorted same low at is told made =
-    more (world_in old) name ds sorted i digest size o n low (earlier (λ w. size ≡ blob_size_at w name (get_or ds i digest)) old mid same (is ∙ ap (blob_size_at (world_in mid) name) at)) told made
+pub more_gone : (l : Layout) (old mid : State) (name : Text) (ds : List Text) (i : ℕ) (digest : Text) (size : Option ℕ) (o n : Option Change) → IsStrictlySortedBy text_cmp ds → mid.now ≡ old.now → i < length ds
+    → digest ≡ get_or ds i digest → size ≡ blob_size_at (world_in l mid) name digest → IfSome o (Foretells (world_in l old) name (λ r. without_blobs r (take i ds)))
+    → IfSome n (λ c. IsSomeAnd o (λ before. c ≡ gone_too size before)) → IfSome n (Foretells (world_in l old) name (λ r. without_blobs r (take (i + 1) ds)))
+more_gone l old mid name ds i digest size o n sorted same low at is told made =
+    more (world_in l old) name ds sorted i digest size o n low (earlier l (λ w. size ≡ blob_size_at w name (get_or ds i digest)) old mid same (is ∙ ap (blob_size_at (world_in l mid) name) at)) told made
 
 -- ---- a manifest
 

@@ -16,6 +16,7 @@ use Rattle.registry_model.specs.declared.quota.Usage.{Usage}
 use Rattle.registry_model.specs.Lookups.{usages_of, no_usage}
 use Rattle.store_schema.specs.Rows.{bytes_at}
 use Rattle.store_schema.proofs.Lists.{bytes_eq_itself, bytes_eq-sym}
+use Rattle.store_contents.specs.Layouts.{Layout}
 use Rattle.store_statements.specs.Keys.{of_first, same_first}
 use Rattle.store_statements.specs.Tables.{Tables}
 use Rattle.store_statements.specs.World.{world_of}
@@ -50,7 +51,7 @@ all_named t is =
     of_row r e = ap (λ (u : Usage). (bytes_at r 1, u)) (usage_found t (bytes_at r 1) is ∙ ap (λ o. option_map_or (usage_in t (bytes_at r 1)) o no_usage) e)
 
 -- the names, then the usages, of a database that stays
-pub all_shown : (old mid : State) (names : List Text) (all : List (Text × Usage)) → IsRegistry (held old) → mid.now ≡ old.now → names ≡ map (λ r. bytes_at r 1) (sort_by by_name (held old).repos)
-    → AreTold (λ name named. named ≡ named_usage (world_in mid) name) names all → all ≡ usages_of (world_in old)
-all_shown old mid names all is same named shown =
-    sym (map-id all) ∙ mapped (λ name named. named ≡ named_usage (world_in mid) name) (named_usage (world_in mid)) (λ named. named) (λ name named e. e) names all shown ∙ ap (λ db. map (named_usage (world_of (tables_in db))) names) same ∙ ap (map (named_usage (world_in old))) named ∙ all_named (held old) is
+pub all_shown : (l : Layout) → (old mid : State) (names : List Text) (all : List (Text × Usage)) → IsRegistry (held l old) → mid.now ≡ old.now → names ≡ map (λ r. bytes_at r 1) (sort_by by_name (held l old).repos)
+    → AreTold (λ name named. named ≡ named_usage (world_in l mid) name) names all → all ≡ usages_of (world_in l old)
+all_shown l old mid names all is same named shown =
+    sym (map-id all) ∙ mapped (λ name named. named ≡ named_usage (world_in l mid) name) (named_usage (world_in l mid)) (λ named. named) (λ name named e. e) names all shown ∙ ap (λ db. map (named_usage (world_of (tables_in l db))) names) same ∙ ap (map (named_usage (world_in l old))) named ∙ all_named (held l old) is

@@ -9,30 +9,30 @@ use Rattle.sqlite.specs.State.{State, HasCleanDisk, Survives}
 use Rattle.oci_types.specs.declared.fault.Fault.{Fault}
 use Rattle.oci_types.specs.declared.fault.Fault.TheVariants.{Memory, Storage}
 use Rattle.store_contents.specs.declared.content_id.ContentId.{ContentId}
-use Rattle.store_contents.specs.Contents.{bytes_in}
+use Rattle.store_contents.specs.Layouts.{Layout, contents_in}
 use Rattle.store_statements.specs.World.{content_at}
 use Rattle.store_statements.specs.Held.{IsSettled, StaysSettled, is_storage}
 use Rattle.store_statements.proofs.CleanBefore.{was_clean}
 use Rattle.store_statements.proofs.SettledAfter.{stays_then}
 
 -- nothing was read yet
-pub stays_here : (s : State) → IsSettled s → StaysSettled s s
-stays_here s settled = (settled, refl)
+pub stays_here : {l : Layout} → (s : State) → IsSettled l s → StaysSettled l s s
+stays_here {l} s settled = (settled, refl)
 
 -- ---- a read behind another one
 
-module _ (a b c : State) (lasts : Survives b c (λ _. ⊤)) (first : HasCleanDisk b → IsSettled a → StaysSettled a b) where
+module _ {l : Layout} (a b c : State) (lasts : Survives b c (λ _. ⊤)) (first : HasCleanDisk b → IsSettled l a → StaysSettled l a b) where
   -- what is told where the one before left all as it was
-  pub told_behind : {R : Type 0} → (HasCleanDisk b → StaysSettled a b → R) → HasCleanDisk c → IsSettled a → R
+  pub told_behind : {R : Type 0} → (HasCleanDisk b → StaysSettled l a b → R) → HasCleanDisk c → IsSettled l a → R
   told_behind {R} tell clean is = by (was_clean lasts clean)
     where
       by : HasCleanDisk b → R
       by early = tell early (first early is)
 
-  pub stays_behind : (HasCleanDisk c → IsSettled b → StaysSettled b c) → HasCleanDisk c → IsSettled a → StaysSettled a c
+  pub stays_behind : (HasCleanDisk c → IsSettled l b → StaysSettled l b c) → HasCleanDisk c → IsSettled l a → StaysSettled l a c
   stays_behind next clean is = by (first (was_clean lasts clean) is)
     where
-      by : StaysSettled a b → StaysSettled a c
+      by : StaysSettled l a b → StaysSettled l a c
       by s = stays_then a b c s (next clean s.0)
 
 -- ---- a fault that is passed on
@@ -53,7 +53,7 @@ joined_more g xs i d before after low was is =
     ∙ sym (concat-append (map g (take i xs)) (g (get_or xs i d) ∷ [])) ∙ ap concat (sym (map_more g xs i d low))
 
 -- of a database that stays
-pub contents_more : (old mid : Database) (ids : List ContentId) (i : ℕ) (d : ContentId) (before after : List ℕ) → mid ≡ old → i < length ids
-    → before ≡ concat (map (λ id. content_at (bytes_in old) id.id) (take i ids)) → after ≡ before ++ content_at (bytes_in mid) (get_or ids i d).id → after ≡ concat (map (λ id. content_at (bytes_in old) id.id) (take (i + 1) ids))
-contents_more old mid ids i d before after same low was is =
-    joined_more (λ id. content_at (bytes_in old) id.id) ids i d before after low was (is ∙ ap (λ db. before ++ content_at (bytes_in db) (get_or ids i d).id) same)
+pub contents_more : (l : Layout) → (old mid : Database) (ids : List ContentId) (i : ℕ) (d : ContentId) (before after : List ℕ) → mid ≡ old → i < length ids
+    → before ≡ concat (map (λ id. content_at (contents_in l old) id.id) (take i ids)) → after ≡ before ++ content_at (contents_in l mid) (get_or ids i d).id → after ≡ concat (map (λ id. content_at (contents_in l old) id.id) (take (i + 1) ids))
+contents_more l old mid ids i d before after same low was is =
+    joined_more (λ id. content_at (contents_in l old) id.id) ids i d before after low was (is ∙ ap (λ db. before ++ content_at (contents_in l db) (get_or ids i d).id) same)

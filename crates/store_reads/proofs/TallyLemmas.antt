@@ -13,6 +13,7 @@ use Rattle.oci_types.specs.Text.{Text}
 use Rattle.oci_types.specs.declared.fault.Fault.{Fault}
 use Rattle.registry_model.specs.Usage.{in_64_bits}
 use Rattle.store_schema.specs.Rows.{natural_at}
+use Rattle.store_contents.specs.Layouts.{Layout}
 use Rattle.store_statements.specs.Keys.{of_first}
 use Rattle.store_reads.specs.declared.tallies.Tally.{Tally}
 use Rattle.store_reads.specs.declared.tallies.Holdings.{Holdings}
@@ -54,14 +55,14 @@ tallied rows name (Ok sizes) t same is = tally_shown rows name sizes.items t sam
 tallied rows name (Err f) t same is = absurd is
 
 -- one after the other, of a database that stays
-pub held_together : (old mid late : State) (name : Text) (blobs manifests sessions : Tally) → mid.now ≡ old.now → late.now ≡ old.now
-    → blobs ≡ tally_in (held old).blobs name → manifests ≡ tally_in (held mid).manifests name → sessions ≡ tally_in (held late).uploads name
-    → ◌≡◌ {A = Holdings} (record { blobs = blobs; manifests = manifests; sessions = sessions }) (holdings_in (held old) name)
-held_together old mid late name blobs manifests sessions same again b m s =
+pub held_together : (l : Layout) → (old mid late : State) (name : Text) (blobs manifests sessions : Tally) → mid.now ≡ old.now → late.now ≡ old.now
+    → blobs ≡ tally_in (held l old).blobs name → manifests ≡ tally_in (held l mid).manifests name → sessions ≡ tally_in (held l late).uploads name
+    → ◌≡◌ {A = Holdings} (record { blobs = blobs; manifests = manifests; sessions = sessions }) (holdings_in (held l old) name)
+held_together l old mid late name blobs manifests sessions same again b m s =
     λ i. record {
       blobs = b i;
-      manifests = (m ∙ ap (λ db. tally_in (tables_in db).manifests name) same) i;
-      sessions = (s ∙ ap (λ db. tally_in (tables_in db).uploads name) again) i;
+      manifests = (m ∙ ap (λ db. tally_in (tables_in l db).manifests name) same) i;
+      sessions = (s ∙ ap (λ db. tally_in (tables_in l db).uploads name) again) i;
     }
 
 pub three_totals : (a b c : ℕ) → in_64_bits (in_64_bits a + in_64_bits b + in_64_bits c) ≡ in_64_bits (a + b + c)

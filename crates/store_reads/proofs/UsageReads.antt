@@ -10,6 +10,7 @@ use Rattle.oci_types.specs.declared.fault.Fault.{Fault}
 use Rattle.registry_model.specs.declared.quota.Usage.{Usage}
 use Rattle.registry_model.specs.Usage.{in_64_bits}
 use Rattle.registry_model.specs.Lookups.{usage_at, no_usage}
+use Rattle.store_contents.specs.Layouts.{Layout}
 use Rattle.store_statements.specs.Keys.{of_first}
 use Rattle.store_statements.specs.Tables.{Tables}
 use Rattle.store_statements.specs.World.{world_of}
@@ -23,11 +24,11 @@ use Rattle.store_reads.specs.Tallies.{holdings_in, usage_from}
 use Rattle.store_reads.proofs.TallyLemmas.{three_totals}
 
 -- the holdings, then the tags, of a database that stays
-pub under_quota : (old mid : State) (name : Text) (quota tags : ℕ) (h : Holdings) (u : Usage) → mid.now ≡ old.now
-    → h ≡ holdings_in (held old) name → tags ≡ length (filter (of_first name) (held mid).tags) → u ≡ usage_from h tags quota
-    → u ≡ usage_from (holdings_in (held old) name) (length (filter (of_first name) (held old).tags)) quota
-under_quota old mid name quota tags h u same holds tagged is =
-    is ∙ ap (λ x. usage_from x tags quota) holds ∙ ap (λ n. usage_from (holdings_in (held old) name) n quota) (tagged ∙ ap (λ db. length (filter (of_first name) (tables_in db).tags)) same)
+pub under_quota : (l : Layout) → (old mid : State) (name : Text) (quota tags : ℕ) (h : Holdings) (u : Usage) → mid.now ≡ old.now
+    → h ≡ holdings_in (held l old) name → tags ≡ length (filter (of_first name) (held l mid).tags) → u ≡ usage_from h tags quota
+    → u ≡ usage_from (holdings_in (held l old) name) (length (filter (of_first name) (held l old).tags)) quota
+under_quota l old mid name quota tags h u same holds tagged is =
+    is ∙ ap (λ x. usage_from x tags quota) holds ∙ ap (λ n. usage_from (holdings_in (held l old) name) n quota) (tagged ∙ ap (λ db. length (filter (of_first name) (tables_in l db).tags)) same)
 
 abbrev pub usage_held : Tables → Text → ℕ → Usage
 usage_held t name quota = usage_from (holdings_in t name) (length (filter (of_first name) t.tags)) quota
@@ -62,7 +63,7 @@ usage_not_there t name is has = go (find (of_first name) t.repos) has ∙ sym (u
     go (Some r) e = absurd cc
 
 -- the repository's row, then its usage, of a database that stays
-pub usage_shown : (old mid : State) (name : Text) (row : RepoRow) (r : Result Usage Fault) → IsRegistry (held old) → mid.now ≡ old.now → Some row ≡ option_map repo_row (find (of_first name) (held old).repos)
-    → IfOk r (λ u. u ≡ usage_held (held mid) name row.quota) → IfOk r (λ u. u ≡ usage_at (world_in old) name)
-usage_shown old mid name row r is same has =
-    IfOk-weaker r (λ u. u ≡ usage_held (held mid) name row.quota) (λ u. u ≡ usage_at (world_in old) name) (λ u e. e ∙ ap (λ db. usage_held (tables_in db) name row.quota) same ∙ usage_there (held old) name row is has)
+pub usage_shown : (l : Layout) → (old mid : State) (name : Text) (row : RepoRow) (r : Result Usage Fault) → IsRegistry (held l old) → mid.now ≡ old.now → Some row ≡ option_map repo_row (find (of_first name) (held l old).repos)
+    → IfOk r (λ u. u ≡ usage_held (held l mid) name row.quota) → IfOk r (λ u. u ≡ usage_at (world_in l old) name)
+usage_shown l old mid name row r is same has =
+    IfOk-weaker r (λ u. u ≡ usage_held (held l mid) name row.quota) (λ u. u ≡ usage_at (world_in l old) name) (λ u e. e ∙ ap (λ db. usage_held (tables_in l db) name row.quota) same ∙ usage_there (held l old) name row is has)

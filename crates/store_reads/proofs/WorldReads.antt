@@ -12,6 +12,7 @@ use Rattle.registry_model.specs.TagPage.{Page}
 use Rattle.registry_model.specs.World.{has_repo}
 use Rattle.registry_model.specs.Lookups.{blob_at, blob_size_at, manifest_at, manifest_size_at, session_at, last_number_at}
 use Rattle.store_schema.specs.Rows.{natural_at}
+use Rattle.store_contents.specs.Layouts.{Layout}
 use Rattle.store_statements.specs.Keys.{has_key, of_first, of_session}
 use Rattle.store_statements.specs.Tables.{Tables}
 use Rattle.store_statements.specs.World.{world_of, content_at, joined, pieces_of}
@@ -54,8 +55,8 @@ module _ (t : Tables) (name digest : Text) (is : IsRegistry t) where
     manifest_by = ap (option_map {U = Kind × Text} (λ (l : ManifestLink). (l.kind, content_at t.contents l.content.id))) e ∙ twice {Z = Kind × Text} _ manifest_link (find (has_key name digest) t.manifests) ∙ sym (manifest_at_found t name digest is)
 
 -- what the same database has under an id
-pub bytes_kept : (old mid : State) (id : ℤ) (bytes : Text) → mid.now ≡ old.now → (held mid).contents id ≡ Some bytes → bytes ≡ content_at (held old).contents id
-bytes_kept old mid id bytes same e = sym (content_found (held mid).contents id bytes e) ∙ ap (λ (d : Database). content_at (tables_in d).contents id) same
+pub bytes_kept : (l : Layout) → (old mid : State) (id : ℤ) (bytes : Text) → mid.now ≡ old.now → (held l mid).contents id ≡ Some bytes → bytes ≡ content_at (held l old).contents id
+bytes_kept l old mid id bytes same e = sym (content_found (held l mid).contents id bytes e) ∙ ap (λ (d : Database). content_at (tables_in l d).contents id) same
 
 pub with_kind : (kind : Kind) (a b : Text) → a ≡ b → ◌≡◌ {A = Option (Kind × Text)} (Some (kind, a)) (Some (kind, b))
 with_kind kind a b e = λ i. Some (kind, e i)

@@ -3,6 +3,7 @@ ghost use Rattle.std.specs.Prelude.{◌≡◌, ℕ, Vec, Option, Ok, IfOk};
 ghost use Rattle.std.specs.declared.alloc.Global.{Global};
 ghost use Rattle.registry_model.specs.Lookups.{blob_at, blob_size_at, blob_digests_at};
 ghost use Rattle.registry_model.specs.Keeping.{bytes_in, shared_in, digests_shown};
+ghost use Rattle.store_contents.specs.Layouts.{Layout, InTables};
 ghost use Rattle.store_statements.specs.Between.{Keeps, Stays, Tells};
 ghost use Rattle.store_statements.specs.Clauses.{Lasts};
 ghost use Rattle.store_statements.specs.Held.{is_storage};
@@ -21,9 +22,10 @@ pub fn blob_size<S: Alter>(
     repo: &RepoName,
     digest: &Digest,
 ) -> Result<Option<u64>, Fault>
-    ensures found { Tells S.Store conn.old conn.new result (λ w v. v ≡ blob_size_at w repo.now digest.now) }
-    ensures settled { Stays S.Store conn.old conn.new result }
-    ensures kept { Keeps S.Store conn.old conn.new }
+    ensures found { (l : Layout)
+        → Tells S.Store l conn.old conn.new result (λ w v. v ≡ blob_size_at w repo.now digest.now) }
+    ensures settled { (l : Layout) → Stays S.Store l conn.old conn.new result }
+    ensures kept { (l : Layout) → Keeps S.Store l conn.old conn.new }
     ensures survives { Lasts S.Store conn.old conn.new }
 {
     match find_blob_link(conn, repo.as_str(), digest.as_str()) {
@@ -55,9 +57,9 @@ fn blob_bytes<S: Alter>(
     repo: &RepoName,
     digest: &Digest,
 ) -> Result<Option<Vec<u8>>, Fault>
-    ensures found { Tells S.Store conn.old conn.new result
+    ensures found { Tells S.Store InTables conn.old conn.new result
         (λ w v. bytes_in v ≡ blob_at w repo.now digest.now) }
-    ensures settled { Stays S.Store conn.old conn.new result }
+    ensures settled { Stays S.Store InTables conn.old conn.new result }
     ensures survives { Lasts S.Store conn.old conn.new }
 {
     match find_blob_link(conn, repo.as_str(), digest.as_str()) {
@@ -77,9 +79,9 @@ pub fn blob<S: Alter>(
     repo: &RepoName,
     digest: &Digest,
 ) -> Result<Option<Rc<Vec<u8>>>, Fault>
-    ensures found { Tells S.Store conn.old conn.new result
+    ensures found { Tells S.Store InTables conn.old conn.new result
         (λ w v. shared_in v ≡ blob_at w repo.now digest.now) }
-    ensures settled { Stays S.Store conn.old conn.new result }
+    ensures settled { Stays S.Store InTables conn.old conn.new result }
     ensures survives { Lasts S.Store conn.old conn.new }
 {
     let read = blob_bytes(alloc, conn, repo, digest);
@@ -92,9 +94,9 @@ pub fn blob_digests<S: Alter>(
     conn: &mut Connection<S>,
     repo: &RepoName,
 ) -> Result<Vec<Digest>, Fault>
-    ensures found { Tells S.Store conn.old conn.new result
+    ensures found { (l : Layout) → Tells S.Store l conn.old conn.new result
         (λ w digests. digests_shown digests ≡ blob_digests_at w repo.now) }
-    ensures settled { Stays S.Store conn.old conn.new result }
+    ensures settled { (l : Layout) → Stays S.Store l conn.old conn.new result }
     ensures survives { Lasts S.Store conn.old conn.new }
 {
     list_blob_digests(alloc, conn, repo.as_str())

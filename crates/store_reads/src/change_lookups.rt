@@ -6,6 +6,7 @@ ghost use Rattle.registry_model.specs.Ask.{text_in};
 ghost use Rattle.registry_model.specs.Sessions.{finished};
 ghost use Rattle.registry_model.specs.Manifests.{with_manifest};
 ghost use Rattle.registry_model.specs.Lookups.{blob_at, blob_size_at, session_size_at, with_mounted};
+ghost use Rattle.store_contents.specs.Layouts.{Layout};
 ghost use Rattle.store_statements.specs.Between.{Keeps, Stays, Tells};
 ghost use Rattle.store_statements.specs.Clauses.{Lasts, WorldHas};
 ghost use Rattle.store_reads.specs.Usages.{Foretells, new_tags, or_untold};
@@ -34,12 +35,12 @@ fn source_change<S: Alter>(
     to: &RepoName,
     digest: &Digest,
 ) -> Result<Option<Change>, Fault>
-    ensures found { WorldHas S.Store conn.old (λ w. blob_size_at w to.now digest.now ≡ None)
-        → Tells S.Store conn.old conn.new result
+    ensures found { (l : Layout) → WorldHas S.Store l conn.old (λ w. blob_size_at w to.now digest.now ≡ None)
+        → Tells S.Store l conn.old conn.new result
         (λ w change. IfSome change
         (Foretells w to.now (with_mounted digest.now (blob_at w from.now digest.now)))) }
-    ensures settled { Stays S.Store conn.old conn.new result }
-    ensures kept { Keeps S.Store conn.old conn.new }
+    ensures settled { (l : Layout) → Stays S.Store l conn.old conn.new result }
+    ensures kept { (l : Layout) → Keeps S.Store l conn.old conn.new }
     ensures survives { Lasts S.Store conn.old conn.new }
 {
     match blob_size(conn, from, digest) {
@@ -60,11 +61,11 @@ pub fn mount_change<S: Alter>(
     to: &RepoName,
     digest: &Digest,
 ) -> Result<Option<Change>, Fault>
-    ensures found { Tells S.Store conn.old conn.new result
+    ensures found { (l : Layout) → Tells S.Store l conn.old conn.new result
         (λ w change. IfSome change
         (Foretells w to.now (with_mounted digest.now (blob_at w from.now digest.now)))) }
-    ensures settled { Stays S.Store conn.old conn.new result }
-    ensures kept { Keeps S.Store conn.old conn.new }
+    ensures settled { (l : Layout) → Stays S.Store l conn.old conn.new result }
+    ensures kept { (l : Layout) → Keeps S.Store l conn.old conn.new }
     ensures survives { Lasts S.Store conn.old conn.new }
 {
     match blob_size(conn, to, digest) {
@@ -83,12 +84,13 @@ fn end_change<S: Alter>(
     digest: &Digest,
     added: u64,
 ) -> Result<Option<Change>, Fault>
-    ensures found { WorldHas S.Store conn.old (λ w. session_size_at w repo.now number ≡ Some size)
-        → (bytes : Text) → length bytes ≡ added → Tells S.Store conn.old conn.new result
+    ensures found { (l : Layout)
+        → WorldHas S.Store l conn.old (λ w. session_size_at w repo.now number ≡ Some size)
+        → (bytes : Text) → length bytes ≡ added → Tells S.Store l conn.old conn.new result
         (λ w change. IfSome change
         (Foretells w repo.now (λ r. finished r number digest.now bytes))) }
-    ensures settled { Stays S.Store conn.old conn.new result }
-    ensures kept { Keeps S.Store conn.old conn.new }
+    ensures settled { (l : Layout) → Stays S.Store l conn.old conn.new result }
+    ensures kept { (l : Layout) → Keeps S.Store l conn.old conn.new }
     ensures survives { Lasts S.Store conn.old conn.new }
 {
     let ended = Change {
@@ -115,11 +117,11 @@ pub fn finish_change<S: Alter>(
     digest: &Digest,
     bytes: &[u8],
 ) -> Result<Option<Change>, Fault>
-    ensures found { Tells S.Store conn.old conn.new result
+    ensures found { (l : Layout) → Tells S.Store l conn.old conn.new result
         (λ w change. IfSome change
         (Foretells w repo.now (λ r. finished r number digest.now bytes.now))) }
-    ensures settled { Stays S.Store conn.old conn.new result }
-    ensures kept { Keeps S.Store conn.old conn.new }
+    ensures settled { (l : Layout) → Stays S.Store l conn.old conn.new result }
+    ensures kept { (l : Layout) → Keeps S.Store l conn.old conn.new }
     ensures survives { Lasts S.Store conn.old conn.new }
 {
     match session_size(conn, repo, number) {
@@ -136,10 +138,10 @@ fn count_new_tags<S: Alter>(
     repo: &RepoName,
     tag: Option<&Tag>,
 ) -> Result<u64, Fault>
-    ensures found { Tells S.Store conn.old conn.new result
+    ensures found { (l : Layout) → Tells S.Store l conn.old conn.new result
         (λ w n. n ≡ new_tags w repo.now (text_in tag.entry)) }
-    ensures settled { Stays S.Store conn.old conn.new result }
-    ensures kept { Keeps S.Store conn.old conn.new }
+    ensures settled { (l : Layout) → Stays S.Store l conn.old conn.new result }
+    ensures kept { (l : Layout) → Keeps S.Store l conn.old conn.new }
     ensures survives { Lasts S.Store conn.old conn.new }
 {
     let Some(tag) = tag else {
@@ -161,12 +163,13 @@ fn tagged_change<S: Alter>(
     tag: Option<&Tag>,
     tags: u64,
 ) -> Result<Option<Change>, Fault>
-    ensures found { WorldHas S.Store conn.old (λ w. tags ≡ new_tags w repo.now (text_in tag.entry))
-        → Tells S.Store conn.old conn.new result
+    ensures found { (l : Layout)
+        → WorldHas S.Store l conn.old (λ w. tags ≡ new_tags w repo.now (text_in tag.entry))
+        → Tells S.Store l conn.old conn.new result
         (λ w change. IfSome change
         (Foretells w repo.now (λ r. with_manifest r digest.now bytes.now (text_in tag.entry)))) }
-    ensures settled { Stays S.Store conn.old conn.new result }
-    ensures kept { Keeps S.Store conn.old conn.new }
+    ensures settled { (l : Layout) → Stays S.Store l conn.old conn.new result }
+    ensures kept { (l : Layout) → Keeps S.Store l conn.old conn.new }
     ensures survives { Lasts S.Store conn.old conn.new }
 {
     match manifest_size(conn, repo, digest) {
@@ -190,11 +193,11 @@ pub fn manifest_change<S: Alter>(
     bytes: &[u8],
     tag: Option<&Tag>,
 ) -> Result<Option<Change>, Fault>
-    ensures found { Tells S.Store conn.old conn.new result
+    ensures found { (l : Layout) → Tells S.Store l conn.old conn.new result
         (λ w change. IfSome change
         (Foretells w repo.now (λ r. with_manifest r digest.now bytes.now (text_in tag.entry)))) }
-    ensures settled { Stays S.Store conn.old conn.new result }
-    ensures kept { Keeps S.Store conn.old conn.new }
+    ensures settled { (l : Layout) → Stays S.Store l conn.old conn.new result }
+    ensures kept { (l : Layout) → Keeps S.Store l conn.old conn.new }
     ensures survives { Lasts S.Store conn.old conn.new }
 {
     match count_new_tags(alloc, conn, repo, tag) {

@@ -1,6 +1,7 @@
 //! The bytes of contents that rows name.
 ghost use Rattle.std.specs.Prelude.{◌≡◌, ◌++◌, [], map, false, Ok, Some, OnOk, IfOk, IsOkAnd};
 ghost use Rattle.std.specs.List.{concat};
+ghost use Rattle.store_contents.specs.Layouts.{InTables};
 ghost use Rattle.store_statements.specs.World.{content_at};
 ghost use Rattle.store_statements.specs.Held.{is_storage};
 ghost use Rattle.store_statements.specs.Between.{Finds, Stays};
@@ -30,8 +31,9 @@ pub(crate) fn content<S: Alter>(
     conn: &mut Connection<S>,
     id: ContentId,
 ) -> Result<Vec<u8>, Fault>
-    ensures found { Finds S.Store conn.old conn.new result (λ t bytes. t.contents id.id ≡ Some bytes.items) }
-    ensures settled { Stays S.Store conn.old conn.new result }
+    ensures found { Finds S.Store InTables conn.old conn.new result
+        (λ t bytes. t.contents id.id ≡ Some bytes.items) }
+    ensures settled { Stays S.Store InTables conn.old conn.new result }
     ensures survives { Lasts S.Store conn.old conn.new }
 {
     let found = read_bytes(alloc, conn, id);
@@ -70,9 +72,9 @@ pub(crate) fn joined<S: Alter>(
     ids: &[ContentId],
     size: u64,
 ) -> Result<Vec<u8>, Fault>
-    ensures found { Finds S.Store conn.old conn.new result
+    ensures found { Finds S.Store InTables conn.old conn.new result
         (λ t bytes. bytes.items ≡ concat (map (λ id. content_at t.contents id.id) ids.now)) }
-    ensures settled { Stays S.Store conn.old conn.new result }
+    ensures settled { Stays S.Store InTables conn.old conn.new result }
     ensures survives { Lasts S.Store conn.old conn.new }
 {
     let mut bytes = with_room(alloc, size)?;

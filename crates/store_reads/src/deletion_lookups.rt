@@ -8,6 +8,7 @@ ghost use Rattle.registry_model.specs.Blobs.{without_blob};
 ghost use Rattle.registry_model.specs.Pruning.{without_blobs};
 ghost use Rattle.registry_model.specs.Manifests.{without_manifest, without_tag};
 ghost use Rattle.registry_model.specs.Command.{without_sessions};
+ghost use Rattle.store_contents.specs.Layouts.{Layout};
 ghost use Rattle.store_statements.specs.Between.{Keeps, Stays, Tells};
 ghost use Rattle.store_statements.specs.Clauses.{Lasts, WorldHas};
 ghost use Rattle.store_reads.specs.Usages.{Foretells, AreNaming, gone_too};
@@ -27,10 +28,10 @@ pub fn delete_blob_change<S: Alter>(
     repo: &RepoName,
     digest: &Digest,
 ) -> Result<Option<Change>, Fault>
-    ensures found { Tells S.Store conn.old conn.new result
+    ensures found { (l : Layout) → Tells S.Store l conn.old conn.new result
         (λ w change. IfSome change (Foretells w repo.now (λ r. without_blob r digest.now))) }
-    ensures settled { Stays S.Store conn.old conn.new result }
-    ensures kept { Keeps S.Store conn.old conn.new }
+    ensures settled { (l : Layout) → Stays S.Store l conn.old conn.new result }
+    ensures kept { (l : Layout) → Keeps S.Store l conn.old conn.new }
     ensures survives { Lasts S.Store conn.old conn.new }
 {
     match blob_size(conn, repo, digest) {
@@ -84,10 +85,10 @@ fn ascending_blobs_change<S: Alter>(
     digests: &[Digest],
 ) -> Result<Option<Change>, Fault>
     requires { IsStrictlySortedBy text_cmp digests.now }
-    ensures found { Tells S.Store conn.old conn.new result
+    ensures found { (l : Layout) → Tells S.Store l conn.old conn.new result
         (λ w change. IfSome change (Foretells w repo.now (λ r. without_blobs r digests.now))) }
-    ensures settled { Stays S.Store conn.old conn.new result }
-    ensures kept { Keeps S.Store conn.old conn.new }
+    ensures settled { (l : Layout) → Stays S.Store l conn.old conn.new result }
+    ensures kept { (l : Layout) → Keeps S.Store l conn.old conn.new }
     ensures survives { Lasts S.Store conn.old conn.new }
 {
     let mut change = Some(NO_CHANGE);
@@ -104,10 +105,10 @@ pub fn delete_blobs_change<S: Alter>(
     repo: &RepoName,
     digests: &[Digest],
 ) -> Result<Option<Change>, Fault>
-    ensures found { Tells S.Store conn.old conn.new result
+    ensures found { (l : Layout) → Tells S.Store l conn.old conn.new result
         (λ w change. IfSome change (Foretells w repo.now (λ r. without_blobs r digests.now))) }
-    ensures settled { Stays S.Store conn.old conn.new result }
-    ensures kept { Keeps S.Store conn.old conn.new }
+    ensures settled { (l : Layout) → Stays S.Store l conn.old conn.new result }
+    ensures kept { (l : Layout) → Keeps S.Store l conn.old conn.new }
     ensures survives { Lasts S.Store conn.old conn.new }
 {
     if ascend(digests) {
@@ -123,10 +124,10 @@ fn count_tags_naming<S: Alter>(
     repo: &RepoName,
     digest: &Digest,
 ) -> Result<u64, Fault>
-    ensures found { Tells S.Store conn.old conn.new result
+    ensures found { (l : Layout) → Tells S.Store l conn.old conn.new result
         (λ w n. AreNaming w repo.now digest.now n) }
-    ensures settled { Stays S.Store conn.old conn.new result }
-    ensures kept { Keeps S.Store conn.old conn.new }
+    ensures settled { (l : Layout) → Stays S.Store l conn.old conn.new result }
+    ensures kept { (l : Layout) → Keeps S.Store l conn.old conn.new }
     ensures survives { Lasts S.Store conn.old conn.new }
 {
     match count_tags_named(conn, repo.as_str(), digest.as_str()) {
@@ -142,11 +143,12 @@ fn named_manifest_change<S: Alter>(
     digest: &Digest,
     tags_gone: u64,
 ) -> Result<Option<Change>, Fault>
-    ensures found { WorldHas S.Store conn.old (λ w. AreNaming w repo.now digest.now tags_gone)
-        → Tells S.Store conn.old conn.new result
+    ensures found { (l : Layout)
+        → WorldHas S.Store l conn.old (λ w. AreNaming w repo.now digest.now tags_gone)
+        → Tells S.Store l conn.old conn.new result
         (λ w change. IfSome change (Foretells w repo.now (λ r. without_manifest r digest.now))) }
-    ensures settled { Stays S.Store conn.old conn.new result }
-    ensures kept { Keeps S.Store conn.old conn.new }
+    ensures settled { (l : Layout) → Stays S.Store l conn.old conn.new result }
+    ensures kept { (l : Layout) → Keeps S.Store l conn.old conn.new }
     ensures survives { Lasts S.Store conn.old conn.new }
 {
     match manifest_size(conn, repo, digest) {
@@ -171,10 +173,10 @@ pub fn delete_manifest_change<S: Alter>(
     repo: &RepoName,
     digest: &Digest,
 ) -> Result<Option<Change>, Fault>
-    ensures found { Tells S.Store conn.old conn.new result
+    ensures found { (l : Layout) → Tells S.Store l conn.old conn.new result
         (λ w change. IfSome change (Foretells w repo.now (λ r. without_manifest r digest.now))) }
-    ensures settled { Stays S.Store conn.old conn.new result }
-    ensures kept { Keeps S.Store conn.old conn.new }
+    ensures settled { (l : Layout) → Stays S.Store l conn.old conn.new result }
+    ensures kept { (l : Layout) → Keeps S.Store l conn.old conn.new }
     ensures survives { Lasts S.Store conn.old conn.new }
 {
     match count_tags_naming(conn, repo, digest) {
@@ -190,10 +192,10 @@ pub fn delete_tag_change<S: Alter>(
     repo: &RepoName,
     tag: &Tag,
 ) -> Result<Option<Change>, Fault>
-    ensures found { Tells S.Store conn.old conn.new result
+    ensures found { (l : Layout) → Tells S.Store l conn.old conn.new result
         (λ w change. IfSome change (Foretells w repo.now (λ r. without_tag r tag.now))) }
-    ensures settled { Stays S.Store conn.old conn.new result }
-    ensures kept { Keeps S.Store conn.old conn.new }
+    ensures settled { (l : Layout) → Stays S.Store l conn.old conn.new result }
+    ensures kept { (l : Layout) → Keeps S.Store l conn.old conn.new }
     ensures survives { Lasts S.Store conn.old conn.new }
 {
     match crate::tag(alloc, conn, repo, tag) {
@@ -213,10 +215,10 @@ pub fn drop_sessions_change<S: Alter>(
     conn: &mut Connection<S>,
     repo: &RepoName,
 ) -> Result<Option<Change>, Fault>
-    ensures found { Tells S.Store conn.old conn.new result
+    ensures found { (l : Layout) → Tells S.Store l conn.old conn.new result
         (λ w change. IfSome change (Foretells w repo.now without_sessions)) }
-    ensures settled { Stays S.Store conn.old conn.new result }
-    ensures kept { Keeps S.Store conn.old conn.new }
+    ensures settled { (l : Layout) → Stays S.Store l conn.old conn.new result }
+    ensures kept { (l : Layout) → Keeps S.Store l conn.old conn.new }
     ensures survives { Lasts S.Store conn.old conn.new }
 {
     match tallied(upload_sizes(alloc, conn, repo.as_str())) {

@@ -1,5 +1,6 @@
 //! What is read behind each of several values.
 ghost use Rattle.std.specs.Prelude.{◌≡◌, ◌∷◌, ◌++◌, [], false, OnOk, IsOkAnd};
+ghost use Rattle.store_contents.specs.Layouts.{InTables};
 ghost use Rattle.store_statements.specs.Tables.{Tables};
 ghost use Rattle.store_statements.specs.Held.{is_storage};
 ghost use Rattle.store_statements.specs.Between.{Finds, Stays};
@@ -18,8 +19,8 @@ pub(crate) trait Leads: Drop {
     ghost told: { Tables → Self → Self.Value → Type 0 };
 
     fn read<S: Alter>(self, alloc: Global, conn: &mut Connection<S>) -> Result<Self::Value, Fault>
-        ensures found { Finds S.Store conn.old conn.new result (λ t value. told t self value) }
-        ensures settled { Stays S.Store conn.old conn.new result }
+        ensures found { Finds S.Store InTables conn.old conn.new result (λ t value. told t self value) }
+        ensures settled { Stays S.Store InTables conn.old conn.new result }
         ensures survives { Lasts S.Store conn.old conn.new };
 }
 
@@ -50,9 +51,9 @@ pub(crate) fn each<S: Alter, T: Leads>(
     conn: &mut Connection<S>,
     given: Vec<T>,
 ) -> Result<Vec<T::Value>, Fault>
-    ensures found { Finds S.Store conn.old conn.new result
+    ensures found { Finds S.Store InTables conn.old conn.new result
         (λ t values. AreTold (T.told t) given.items values.items) }
-    ensures settled { Stays S.Store conn.old conn.new result }
+    ensures settled { Stays S.Store InTables conn.old conn.new result }
     ensures survives { Lasts S.Store conn.old conn.new }
 {
     let mut values = Vec::new(alloc);

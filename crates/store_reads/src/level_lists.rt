@@ -1,6 +1,7 @@
 //! Who has what level on a repository, and on all.
 ghost use Rattle.std.specs.Prelude.{◌≡◌, map, IfOk};
 ghost use Rattle.registry_model.specs.Lookups.{AreLevelsOn, AreLevelsOver, repo_names_of};
+ghost use Rattle.store_contents.specs.Layouts.{Layout};
 ghost use Rattle.store_statements.specs.Between.{Stays, Tells};
 ghost use Rattle.store_statements.specs.Clauses.{Lasts};
 ghost use Rattle.store_statements.specs.Told.{IsRead};
@@ -64,9 +65,9 @@ pub fn levels<S: Alter>(
     conn: &mut Connection<S>,
     repo: &RepoName,
 ) -> Result<Vec<(Token, Level)>, Fault>
-    ensures found { Tells S.Store conn.old conn.new result
+    ensures found { (l : Layout) → Tells S.Store l conn.old conn.new result
         (λ w levels. AreLevelsOn w repo.now levels.items) }
-    ensures settled { Stays S.Store conn.old conn.new result }
+    ensures settled { (l : Layout) → Stays S.Store l conn.old conn.new result }
     ensures survives { Lasts S.Store conn.old conn.new }
 {
     let found = levels_of(alloc, token_rows(conn, repo.as_str()));
@@ -75,9 +76,9 @@ pub fn levels<S: Alter>(
 
 /// Each level of a token on a repository, in byte order of the repositories, and on each of the tokens.
 pub fn all_grants<S: Alter>(alloc: Global, conn: &mut Connection<S>) -> Result<Vec<Grant>, Fault>
-    ensures found { Tells S.Store conn.old conn.new result
+    ensures found { (l : Layout) → Tells S.Store l conn.old conn.new result
         (λ w grants. AreLevelsOver w (repo_names_of w) grants.items) }
-    ensures settled { Stays S.Store conn.old conn.new result }
+    ensures settled { (l : Layout) → Stays S.Store l conn.old conn.new result }
     ensures survives { Lasts S.Store conn.old conn.new }
 {
     list_grants(alloc, conn)

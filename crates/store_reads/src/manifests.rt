@@ -2,6 +2,7 @@
 ghost use Rattle.std.specs.Prelude.{◌≡◌};
 ghost use Rattle.registry_model.specs.Lookups.{manifest_at, manifest_size_at, manifest_digests_at};
 ghost use Rattle.registry_model.specs.Keeping.{manifest_shown, digests_shown};
+ghost use Rattle.store_contents.specs.Layouts.{Layout, InTables};
 ghost use Rattle.store_statements.specs.Between.{Keeps, Stays, Tells};
 ghost use Rattle.store_statements.specs.Clauses.{Lasts};
 
@@ -17,10 +18,10 @@ pub fn manifest_size<S: Alter>(
     repo: &RepoName,
     digest: &Digest,
 ) -> Result<Option<(Kind, u64)>, Fault>
-    ensures found { Tells S.Store conn.old conn.new result
+    ensures found { (l : Layout) → Tells S.Store l conn.old conn.new result
         (λ w v. v ≡ manifest_size_at w repo.now digest.now) }
-    ensures settled { Stays S.Store conn.old conn.new result }
-    ensures kept { Keeps S.Store conn.old conn.new }
+    ensures settled { (l : Layout) → Stays S.Store l conn.old conn.new result }
+    ensures kept { (l : Layout) → Keeps S.Store l conn.old conn.new }
     ensures survives { Lasts S.Store conn.old conn.new }
 {
     match find_manifest_link(conn, repo.as_str(), digest.as_str()) {
@@ -37,9 +38,9 @@ pub fn manifest<S: Alter>(
     repo: &RepoName,
     digest: &Digest,
 ) -> Result<Option<(Kind, Vec<u8>)>, Fault>
-    ensures found { Tells S.Store conn.old conn.new result
+    ensures found { Tells S.Store InTables conn.old conn.new result
         (λ w v. manifest_shown v ≡ manifest_at w repo.now digest.now) }
-    ensures settled { Stays S.Store conn.old conn.new result }
+    ensures settled { Stays S.Store InTables conn.old conn.new result }
     ensures survives { Lasts S.Store conn.old conn.new }
 {
     match find_manifest_link(conn, repo.as_str(), digest.as_str()) {
@@ -58,9 +59,9 @@ pub fn manifest_digests<S: Alter>(
     conn: &mut Connection<S>,
     repo: &RepoName,
 ) -> Result<Vec<Digest>, Fault>
-    ensures found { Tells S.Store conn.old conn.new result
+    ensures found { (l : Layout) → Tells S.Store l conn.old conn.new result
         (λ w digests. digests_shown digests ≡ manifest_digests_at w repo.now) }
-    ensures settled { Stays S.Store conn.old conn.new result }
+    ensures settled { (l : Layout) → Stays S.Store l conn.old conn.new result }
     ensures survives { Lasts S.Store conn.old conn.new }
 {
     list_manifest_digests(alloc, conn, repo.as_str())

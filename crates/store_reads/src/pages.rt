@@ -2,6 +2,7 @@
 ghost use Rattle.std.specs.Prelude.{◌≡◌};
 ghost use Rattle.registry_model.specs.Keeping.{page_shown};
 ghost use Rattle.registry_model.specs.Lookups.{page_at};
+ghost use Rattle.store_contents.specs.Layouts.{Layout};
 ghost use Rattle.store_statements.specs.Between.{Stays, Tells};
 ghost use Rattle.store_statements.specs.Clauses.{Lasts};
 
@@ -19,9 +20,9 @@ pub fn tags_after<S: Alter>(
     last: &str,
     n: Option<u64>,
 ) -> Result<(Vec<Tag>, bool), Fault>
-    ensures found { Tells S.Store conn.old conn.new result
+    ensures found { (l : Layout) → Tells S.Store l conn.old conn.new result
         (λ w page. page_shown page ≡ page_at w repo.now last.now n) }
-    ensures settled { Stays S.Store conn.old conn.new result }
+    ensures settled { (l : Layout) → Stays S.Store l conn.old conn.new result }
     ensures survives { Lasts S.Store conn.old conn.new }
 {
     match tags_page(alloc, conn, repo.as_str(), last, n) {

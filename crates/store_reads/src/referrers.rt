@@ -2,6 +2,7 @@
 ghost use Rattle.std.specs.Prelude.{◌≡◌};
 ghost use Rattle.registry_model.specs.Keeping.{entries_shown};
 ghost use Rattle.registry_model.specs.Lookups.{manifests_on_at};
+ghost use Rattle.store_contents.specs.Layouts.{InTables};
 ghost use Rattle.store_statements.specs.World.{content_at};
 ghost use Rattle.store_statements.specs.Between.{Stays, Tells};
 ghost use Rattle.store_statements.specs.Clauses.{Lasts};
@@ -42,9 +43,9 @@ pub fn manifests_of_subject<S: Alter>(
     repo: &RepoName,
     digest: &Digest,
 ) -> Result<Vec<(Digest, Vec<u8>)>, Fault>
-    ensures found { Tells S.Store conn.old conn.new result
+    ensures found { Tells S.Store InTables conn.old conn.new result
         (λ w entries. entries_shown entries ≡ manifests_on_at w repo.now digest.now) }
-    ensures settled { Stays S.Store conn.old conn.new result }
+    ensures settled { Stays S.Store InTables conn.old conn.new result }
     ensures survives { Lasts S.Store conn.old conn.new }
 {
     let referrers = manifests_on_subject(alloc, conn, repo.as_str(), digest.as_str())?;

@@ -2,6 +2,7 @@
 ghost use Rattle.std.specs.Prelude.{◌≡◌, filter, length};
 ghost use Rattle.registry_model.specs.Keeping.{usages_shown};
 ghost use Rattle.registry_model.specs.Lookups.{usage_at, usages_of};
+ghost use Rattle.store_contents.specs.Layouts.{Layout, InTables};
 ghost use Rattle.store_statements.specs.Keys.{of_first};
 ghost use Rattle.store_statements.specs.Between.{Finds, Stays, Tells};
 ghost use Rattle.store_statements.specs.Clauses.{Lasts};
@@ -54,9 +55,9 @@ fn usage_under<S: Alter>(
     repo: &RepoName,
     quota: u64,
 ) -> Result<Usage, Fault>
-    ensures found { Finds S.Store conn.old conn.new result
+    ensures found { (l : Layout) → Finds S.Store l conn.old conn.new result
         (λ t u. u ≡ usage_from (holdings_in t repo.now) (length (filter (of_first repo.now) t.tags)) quota) }
-    ensures settled { Stays S.Store conn.old conn.new result }
+    ensures settled { (l : Layout) → Stays S.Store l conn.old conn.new result }
     ensures survives { Lasts S.Store conn.old conn.new }
 {
     let holdings = read_holdings(alloc, conn, repo)?;
@@ -70,8 +71,8 @@ pub fn usage<S: Alter>(
     conn: &mut Connection<S>,
     repo: &RepoName,
 ) -> Result<Usage, Fault>
-    ensures found { Tells S.Store conn.old conn.new result (λ w u. u ≡ usage_at w repo.now) }
-    ensures settled { Stays S.Store conn.old conn.new result }
+    ensures found { (l : Layout) → Tells S.Store l conn.old conn.new result (λ w u. u ≡ usage_at w repo.now) }
+    ensures settled { (l : Layout) → Stays S.Store l conn.old conn.new result }
     ensures survives { Lasts S.Store conn.old conn.new }
 {
     match find_repo(conn, repo.as_str()) {
@@ -104,8 +105,9 @@ pub fn usages<S: Alter>(
     alloc: Global,
     conn: &mut Connection<S>,
 ) -> Result<Vec<(RepoName, Usage)>, Fault>
-    ensures found { Tells S.Store conn.old conn.new result (λ w all. usages_shown all ≡ usages_of w) }
-    ensures settled { Stays S.Store conn.old conn.new result }
+    ensures found { Tells S.Store InTables conn.old conn.new result
+        (λ w all. usages_shown all ≡ usages_of w) }
+    ensures settled { Stays S.Store InTables conn.old conn.new result }
     ensures survives { Lasts S.Store conn.old conn.new }
 {
     let names = list_repos(alloc, conn)?;

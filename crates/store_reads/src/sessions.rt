@@ -2,6 +2,7 @@
 ghost use Rattle.std.specs.Prelude.{◌≡◌, ◌<◌, ◌^◌};
 ghost use Rattle.registry_model.specs.Keeping.{bytes_in};
 ghost use Rattle.registry_model.specs.Lookups.{session_at};
+ghost use Rattle.store_contents.specs.Layouts.{InTables};
 ghost use Rattle.store_statements.specs.World.{pieces_of, joined};
 ghost use Rattle.store_statements.specs.Between.{Finds, Stays, Tells};
 ghost use Rattle.store_statements.specs.Clauses.{Lasts};
@@ -24,9 +25,9 @@ fn session_bytes<S: Alter>(
     size: u64,
 ) -> Result<Vec<u8>, Fault>
     requires fits { number < 2 ^ 63 }
-    ensures found { Finds S.Store conn.old conn.new result
+    ensures found { Finds S.Store InTables conn.old conn.new result
         (λ t bytes. bytes.items ≡ joined t.contents (pieces_of t.pieces repo.now number)) }
-    ensures settled { Stays S.Store conn.old conn.new result }
+    ensures settled { Stays S.Store InTables conn.old conn.new result }
     ensures survives { Lasts S.Store conn.old conn.new }
 {
     let ids = pieces_in_order(alloc, conn, repo, number)?;
@@ -42,9 +43,9 @@ pub(crate) fn session<S: Alter>(
     number: u64,
 ) -> Result<Option<Vec<u8>>, Fault>
     requires fits { number < 2 ^ 63 }
-    ensures found { Tells S.Store conn.old conn.new result
+    ensures found { Tells S.Store InTables conn.old conn.new result
         (λ w o. bytes_in o ≡ session_at w repo.now number) }
-    ensures settled { Stays S.Store conn.old conn.new result }
+    ensures settled { Stays S.Store InTables conn.old conn.new result }
     ensures survives { Lasts S.Store conn.old conn.new }
 {
     let repo = repo.as_str();
@@ -61,9 +62,9 @@ pub fn session_numbered<S: Alter>(
     repo: &RepoName,
     number: u64,
 ) -> Result<Option<Vec<u8>>, Fault>
-    ensures found { Tells S.Store conn.old conn.new result
+    ensures found { Tells S.Store InTables conn.old conn.new result
         (λ w o. bytes_in o ≡ session_at w repo.now number) }
-    ensures settled { Stays S.Store conn.old conn.new result }
+    ensures settled { Stays S.Store InTables conn.old conn.new result }
     ensures survives { Lasts S.Store conn.old conn.new }
 {
     if number <= LARGEST {

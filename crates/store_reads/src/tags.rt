@@ -2,6 +2,7 @@
 ghost use Rattle.std.specs.Prelude.{◌≡◌};
 ghost use Rattle.registry_model.specs.Keeping.{tags_shown};
 ghost use Rattle.registry_model.specs.Lookups.{tag_at, tags_at};
+ghost use Rattle.store_contents.specs.Layouts.{Layout};
 ghost use Rattle.store_statements.specs.Between.{Keeps, Stays, Tells};
 ghost use Rattle.store_statements.specs.Clauses.{Lasts};
 
@@ -18,9 +19,10 @@ pub fn tag<S: Alter>(
     repo: &RepoName,
     tag: &Tag,
 ) -> Result<Option<Digest>, Fault>
-    ensures found { Tells S.Store conn.old conn.new result (λ w v. v ≡ tag_at w repo.now tag.now) }
-    ensures settled { Stays S.Store conn.old conn.new result }
-    ensures kept { Keeps S.Store conn.old conn.new }
+    ensures found { (l : Layout)
+        → Tells S.Store l conn.old conn.new result (λ w v. v ≡ tag_at w repo.now tag.now) }
+    ensures settled { (l : Layout) → Stays S.Store l conn.old conn.new result }
+    ensures kept { (l : Layout) → Keeps S.Store l conn.old conn.new }
     ensures survives { Lasts S.Store conn.old conn.new }
 {
     find_tag(alloc, conn, repo.as_str(), tag.as_str())
@@ -32,9 +34,9 @@ pub fn all_tags<S: Alter>(
     conn: &mut Connection<S>,
     repo: &RepoName,
 ) -> Result<Vec<(Tag, Digest)>, Fault>
-    ensures found { Tells S.Store conn.old conn.new result
+    ensures found { (l : Layout) → Tells S.Store l conn.old conn.new result
         (λ w tags. tags_shown tags ≡ tags_at w repo.now) }
-    ensures settled { Stays S.Store conn.old conn.new result }
+    ensures settled { (l : Layout) → Stays S.Store l conn.old conn.new result }
     ensures survives { Lasts S.Store conn.old conn.new }
 {
     list_tags(alloc, conn, repo.as_str())

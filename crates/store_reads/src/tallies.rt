@@ -1,5 +1,6 @@
 //! How many blobs, manifests and upload sessions a repository has, and how many bytes.
 ghost use Rattle.std.specs.Prelude.{◌≡◌, false, IfOk, IsOkAnd};
+ghost use Rattle.store_contents.specs.Layouts.{Layout};
 ghost use Rattle.store_statements.specs.Between.{Finds, Stays};
 ghost use Rattle.store_statements.specs.Clauses.{Lasts};
 ghost use Rattle.store_statements.specs.Held.{is_storage};
@@ -58,8 +59,9 @@ pub(crate) fn read_holdings<S: Alter>(
     conn: &mut Connection<S>,
     repo: &RepoName,
 ) -> Result<Holdings, Fault>
-    ensures found { Finds S.Store conn.old conn.new result (λ t h. h ≡ holdings_in t repo.now) }
-    ensures settled { Stays S.Store conn.old conn.new result }
+    ensures found { (l : Layout)
+        → Finds S.Store l conn.old conn.new result (λ t h. h ≡ holdings_in t repo.now) }
+    ensures settled { (l : Layout) → Stays S.Store l conn.old conn.new result }
     ensures survives { Lasts S.Store conn.old conn.new }
 {
     let repo = repo.as_str();

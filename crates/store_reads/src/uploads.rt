@@ -3,6 +3,7 @@ ghost use Rattle.std.specs.Prelude.{◌≡◌, OnOk, None};
 ghost use Rattle.sqlite.specs.State.{HasCleanDisk};
 ghost use Rattle.sqlite.specs.Held.{state};
 ghost use Rattle.registry_model.specs.Lookups.{session_at, session_size_at, sessions_open_at};
+ghost use Rattle.store_contents.specs.Layouts.{Layout};
 ghost use Rattle.store_statements.specs.Between.{Keeps, Stays, Tells};
 ghost use Rattle.store_statements.specs.Clauses.{Lasts};
 ghost use Rattle.store_statements.specs.Held.{IsSettled, world_in};
@@ -15,8 +16,9 @@ use store_statements::uploads::{count_uploads, find_upload};
 
 /// How many upload sessions are open; 0 where the repository is not there.
 pub fn sessions_open<S: Alter>(conn: &mut Connection<S>, repo: &RepoName) -> Result<u64, Fault>
-    ensures found { Tells S.Store conn.old conn.new result (λ w v. v ≡ sessions_open_at w repo.now) }
-    ensures settled { Stays S.Store conn.old conn.new result }
+    ensures found { (l : Layout)
+        → Tells S.Store l conn.old conn.new result (λ w v. v ≡ sessions_open_at w repo.now) }
+    ensures settled { (l : Layout) → Stays S.Store l conn.old conn.new result }
     ensures survives { Lasts S.Store conn.old conn.new }
 {
     match count_uploads(conn, repo.as_str()) {
@@ -32,10 +34,11 @@ pub(crate) fn expect_no_session<S: Alter>(
     repo: &RepoName,
     number: u64,
 ) -> Result<(), Fault>
-    ensures found { HasCleanDisk (state S.Store conn.new) → IsSettled (state S.Store conn.old)
-        → OnOk result (session_at (world_in (state S.Store conn.old)) repo.now number ≡ None) }
-    ensures settled { Stays S.Store conn.old conn.new result }
-    ensures kept { Keeps S.Store conn.old conn.new }
+    ensures found { (l : Layout) → HasCleanDisk (state S.Store conn.new)
+        → IsSettled l (state S.Store conn.old)
+        → OnOk result (session_at (world_in l (state S.Store conn.old)) repo.now number ≡ None) }
+    ensures settled { (l : Layout) → Stays S.Store l conn.old conn.new result }
+    ensures kept { (l : Layout) → Keeps S.Store l conn.old conn.new }
     ensures survives { Lasts S.Store conn.old conn.new }
 {
     match last_number(conn, repo) {
@@ -51,9 +54,10 @@ pub fn session_size<S: Alter>(
     repo: &RepoName,
     number: u64,
 ) -> Result<Option<u64>, Fault>
-    ensures found { Tells S.Store conn.old conn.new result (λ w v. v ≡ session_size_at w repo.now number) }
-    ensures settled { Stays S.Store conn.old conn.new result }
-    ensures kept { Keeps S.Store conn.old conn.new }
+    ensures found { (l : Layout)
+        → Tells S.Store l conn.old conn.new result (λ w v. v ≡ session_size_at w repo.now number) }
+    ensures settled { (l : Layout) → Stays S.Store l conn.old conn.new result }
+    ensures kept { (l : Layout) → Keeps S.Store l conn.old conn.new }
     ensures survives { Lasts S.Store conn.old conn.new }
 {
     if number <= LARGEST {

@@ -7,6 +7,7 @@ use Rattle.sqlite.specs.State.{State, HasCleanDisk, KeepsCommit}
 use Rattle.sqlite.specs.Held.{Held, state}
 use Rattle.sqlite.proofs.Callers.{survives_begin}
 use Rattle.oci_types.specs.declared.fault.Fault.{Fault}
+use Rattle.store_contents.specs.Layouts.{Layout}
 use Rattle.store_statements.specs.Tables.{Tables}
 use Rattle.store_statements.specs.Clauses.{Lasts, LastsUncommitted}
 use Rattle.store_statements.specs.Held.{IsReady, IsSettled, Commits, IsBack, held}
@@ -31,12 +32,12 @@ less_err (Err e) f p = f p
 
 -- ---- a change
 
-commits_same : {s : State} {t : Tables} → Commits s t → Commits s (held s)
-commits_same it = record { is_open = it.is_open; autocommit = it.autocommit; committed = it.committed; holds = it.holds; tables = refl }
+commits_same : {l : Layout} → {s : State} {t : Tables} → Commits l s t → Commits l s (held l s)
+commits_same {l} it = record { is_open = it.is_open; autocommit = it.autocommit; committed = it.committed; holds = it.holds; tables = refl }
 
 -- the tables that were committed are these
-pub commits_as : (s : State) (t : Tables) → Commits s (held s) → held s ≡ t → Commits s t
-commits_as s t c e = record { is_open = c.is_open; autocommit = c.autocommit; committed = c.committed; holds = c.holds; tables = e }
+pub commits_as : {l : Layout} → (s : State) (t : Tables) → Commits l s (held l s) → held l s ≡ t → Commits l s t
+commits_as {l} s t c e = record { is_open = c.is_open; autocommit = c.autocommit; committed = c.committed; holds = c.holds; tables = e }
 
 module _ {S : Type 0} {g : Ghosts S} (old : Held S) {first mid new : Held S} {A B : Type 0} {done : Result A Fault} {r : Result B Fault}
     (begun : first ≡ record old { in_transaction = true }) (ends : Ends g mid new done r) where
@@ -51,11 +52,11 @@ module _ {S : Type 0} {g : Ghosts S} (old : Held S) {first mid new : Held S} {A 
   lasts worked = survives_all (state g old) (state g mid) (state g new) _ _ (survives_begin g old (state g mid) _ (subst (λ (h : Held S). LastsUncommitted g h mid) begun worked)) ends.survives
 
   -- what was so of the work that was done is so of what was committed
-  pub committed_so : (P : Tables → Type 0) → HasCleanDisk (state g new) → OnOk done (IsReady (state g mid) × P (held (state g mid))) → OnOk r (Commits (state g new) (held (state g new)) × P (held (state g new)))
-  committed_so P clean it = both done r ends.told it (ends.committed clean (less done (λ h. h.0) it)) (λ h c. (commits_same c, subst P (sym c.tables) h.1))
+  pub committed_so : (l : Layout) → (P : Tables → Type 0) → HasCleanDisk (state g new) → OnOk done (IsReady l (state g mid) × P (held l (state g mid))) → OnOk r (Commits l (state g new) (held l (state g new)) × P (held l (state g new)))
+  committed_so l P clean it = both done r ends.told it (ends.committed l clean (less done (λ h. h.0) it)) (λ h c. (commits_same c, subst P (sym c.tables) h.1))
 
-  pub went_back : KeepsCommit (state g first) (state g mid) → HasCleanDisk (state g new) → IsSettled (state g old) → OnOk done (IsReady (state g mid)) → OnErr r (IsBack (state g old) (state g new))
-  went_back kept clean is it = less_err r (back_dropped (state g old) (state g first) (state g mid) (state g new) is (at_begin (λ (s : State). s.committed ≡ (state g old).committed) refl) kept) (ends.undone clean it)
+  pub went_back : {l : Layout} → KeepsCommit (state g first) (state g mid) → HasCleanDisk (state g new) → IsSettled l (state g old) → OnOk done (IsReady l (state g mid)) → OnErr r (IsBack (state g old) (state g new))
+  went_back {l} kept clean is it = less_err r (back_dropped (state g old) (state g first) (state g mid) (state g new) is (at_begin (λ (s : State). s.committed ≡ (state g old).committed) refl) kept) (ends.undone l clean it)
 
   -- a crash leaves what it left before, or what the work made, where it was done
   pub crash_left : LastsUncommitted g first mid → HasCleanDisk (state g new) → (db : Trees) → (state g new).may_leave db → (state g old).may_leave db ⊎ (IsOk done × (db ≡ (state g mid).now.trees))

@@ -29,6 +29,15 @@ left_beside a b tree nine i at (t ∷ ts) h = λ j. here (is_beside nine t) refl
     here true is = ap (λ (rows : List Row). rows ∷ []) (h.0 (apart_beside nine i tree t at is))
     here false is = refl
 
+-- where each of them keeps its rows
+pub same_beside : (a b : Trees) (nine : List ℕ) (ts : List Table) → AllByRecursion (λ (t : Table). is_beside nine t ≡ true → b t.tree ≡ a t.tree) ts → rows_beside b nine ts ≡ rows_beside a nine ts
+same_beside a b nine [] h = refl
+same_beside a b nine (t ∷ ts) h = λ j. here (is_beside nine t) refl j ++ same_beside a b nine ts h.1 j
+  where
+    here : (x : Bool) → is_beside nine t ≡ x → (if x then b t.tree ∷ [] else []) ≡ (if x then a t.tree ∷ [] else [])
+    here true is = ap (λ (rows : List Row). rows ∷ []) (h.0 is)
+    here false is = refl
+
 abbrev AreEmpty : List (List Row) → Type 0
 AreEmpty tables = AllByRecursion (λ (rows : List Row). rows ≡ []) tables
 

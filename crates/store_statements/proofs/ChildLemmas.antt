@@ -29,6 +29,7 @@ use Rattle.store_schema.proofs.Lists.{bytes_eq_true}
 use Rattle.store_schema.proofs.Selects.{is_text}
 use Rattle.store_schema.proofs.Writes.{passes, deletes, Edits, Removes}
 use Rattle.store_schema.proofs.Children.{SetsOff, removes_childless, taken_passed}
+use Rattle.store_contents.specs.Layouts.{Layout}
 use Rattle.store_statements.specs.Keys.{of_first, of_second, same_first}
 use Rattle.store_statements.specs.Tables.{Tables, IsEmptyBeside, IsRepoRow, IsGrantRow, IsTagRow, IsBlobRow, IsManifestRow, IsUploadRow, IsPieceRow}
 use Rattle.store_statements.specs.RepoTexts.{repo_take}
@@ -68,7 +69,7 @@ pairs_named name (r ∷ rs) h = (h.0, pairs_named name rs h.1)
 
 -- ---- the statement
 
-module _ (name : List ℕ) (old new : State) (n : ℕ) (h : HoldsTables old.now) (bare : HasNoChildren (held old) name) (ran : Executes repo_take (Text name ∷ []) old new (Ok n)) where
+module _ {l : Layout} (name : List ℕ) (old new : State) (n : ℕ) (h : HoldsTables l old.now) (bare : HasNoChildren (held l old) name) (ran : Executes repo_take (Text name ∷ []) old new (Ok n)) where
   abbrev schema : Schema
   schema = old.now.schema
 
@@ -139,13 +140,13 @@ module _ (name : List ℕ) (old new : State) (n : ℕ) (h : HoldsTables old.now)
   removed : Removes schema table (passes params (equals 1 0 ∷ [])) old new
   removed = removes_childless schema table (equals 1 0 ∷ []) params old new n h.tables.repos.ids did childless
 
-  took : (held new ≡ repos_without (of_first name) (held old)) × HoldsTables new.now
+  took : (held l new ≡ repos_without (of_first name) (held l old)) × HoldsTables l new.now
   took = statements.taken repos_table IsRepoRow same_first (λ t rows. record t { repos = rows }) (λ schema k. k.repos) (λ a b k keeps rows e. only_repos a b k keeps rows e) (λ a b k keeps is. contents_beside_repos a b k keeps is) (λ db t. t.repos) put_are
       (equals 1 0 ∷ []) params (of_first name) old new h (name_test name []) removed
 
-pub took_by : (name : List ℕ) (old new : State) (r : Result ℕ Error) → HoldsTables old.now → HasNoChildren (held old) name → ExecutesInside 0 repo_take (Text name ∷ []) old new r → OnOk r (Becomes new (repos_without (of_first name) (held old)))
-took_by name old new (Err e) h bare ran = tt
-took_by name old new (Ok n) h bare ran = let it = took name old new n h bare ran.0 in (record { inside = ran.1.mode; holds = it.1 }, it.0)
+pub took_by : {l : Layout} → (name : List ℕ) (old new : State) (r : Result ℕ Error) → HoldsTables l old.now → HasNoChildren (held l old) name → ExecutesInside 0 repo_take (Text name ∷ []) old new r → OnOk r (Becomes l new (repos_without (of_first name) (held l old)))
+took_by {l} name old new (Err e) h bare ran = tt
+took_by {l} name old new (Ok n) h bare ran = let it = took name old new n h bare ran.0 in (record { inside = ran.1.mode; holds = it.1 }, it.0)
 
 -- ---- no child is left
 

@@ -50,12 +50,12 @@ module _ (olds news : ℤ → Option Text) where
   pub sessions_kept : (pieces rows : List Row) (name : Text) → Same olds news 5 pieces → sessions_of news pieces rows name ≡ sessions_of olds pieces rows name
   sessions_kept pieces rows name all = λ i. from_entries (map (λ r. (natural_at r 2, joined_kept (pieces_of pieces (bytes_at r 1) (natural_at r 2)) (all-pieces_of _ pieces (bytes_at r 1) (natural_at r 2) all) i)) (filter (of_first name) rows))
 
-pub contents_kept : (t : Tables) (news : ℤ → Option Text) → IsRegistry t → Same t.contents news 4 t.blobs → Same t.contents news 6 t.manifests → Same t.contents news 5 t.pieces
-    → let after : Tables = record t { contents = news } in (world_of after ≡ world_of t) × IsRegistry after
-contents_kept t news is blobs manifests pieces = (λ i. record { repos = from_entries (map (λ r. (bytes_at r 1, same r i)) t.repos); grants = grants_of t.grants }, record { tables = still; agree = agrees })
+pub contents_kept : (t : Tables) (news : ℤ → Option Text) (places : List Row) → IsRegistry t → Same t.contents news 4 t.blobs → Same t.contents news 6 t.manifests → Same t.contents news 5 t.pieces
+    → let after : Tables = record t { contents = news; places = places } in (world_of after ≡ world_of t) × IsRegistry after
+contents_kept t news places is blobs manifests pieces = (λ i. record { repos = from_entries (map (λ r. (bytes_at r 1, same r i)) t.repos); grants = grants_of t.grants }, record { tables = still; agree = agrees })
   where
     after : Tables
-    after = record t { contents = news }
+    after = record t { contents = news; places = places }
 
     same : (r : Row) → repo_in after r ≡ repo_in t r
     same r = λ i. record {
@@ -87,8 +87,8 @@ contents_kept t news is blobs manifests pieces = (λ i. record { repos = from_en
     }
 
 -- where contents came and those that were there keep their bytes
-pub contents_grown : (t : Tables) (news : ℤ → Option Text) → IsRegistry t → Grow t.contents news → let after : Tables = record t { contents = news } in (world_of after ≡ world_of t) × IsRegistry after
-contents_grown t news is grow = contents_kept t news is
+pub contents_grown : (t : Tables) (news : ℤ → Option Text) (places : List Row) → IsRegistry t → Grow t.contents news → let after : Tables = record t { contents = news; places = places } in (world_of after ≡ world_of t) × IsRegistry after
+contents_grown t news places is grow = contents_kept t news places is
     (all_weaker (BlobAgrees t.contents) (λ r. news (integer_at r 4) ≡ t.contents (integer_at r 4)) (λ r h. grow (integer_at r 4) h.bytes h.there ∙ sym h.there) t.blobs is.agree.blobs)
     (all_weaker (ManifestAgrees t.contents) (λ r. news (integer_at r 6) ≡ t.contents (integer_at r 6)) (λ r h. grow (integer_at r 6) h.bytes h.there ∙ sym h.there) t.manifests is.agree.manifests)
     (all_weaker (PieceAgrees t.contents) (λ r. news (integer_at r 5) ≡ t.contents (integer_at r 5)) (λ r h. grow (integer_at r 5) h.bytes h.there ∙ sym h.there) t.pieces is.agree.pieces)

@@ -26,23 +26,23 @@ module _ {S : Type 0} (g : Ghosts S) (mid new : Held S) {A B : Type 0} (done : R
   pub ends_committed : Survives (state g mid) (state g new) (λ db. db ≡ (state g mid).now.trees) → (x : A) (y : B) → done ≡ Ok x → (HasCleanDisk (state g new) → Shows (state g mid) (state g new) (state g mid).now (state g mid).now false) → Ends g mid new done (Ok y)
   ends_committed it x y is shows = record {
     told = subst IsOk (sym is) refl;
-    committed = λ clean ready. commits (state g mid) (state g new) _ (was_done done x is ready, refl) (shows clean);
-    undone = λ clean ready. tt;
+    committed = λ l clean ready. commits (state g mid) (state g new) _ (was_done done x is ready, refl) (shows clean);
+    undone = λ l clean ready. tt;
     survives = tried (state g mid) (state g new) done x is it;
   }
 
   pub ends_refused : Survives (state g mid) (state g new) (λ db. db ≡ (state g mid).now.trees) → (x : A) (fault : Fault) (e : Error) → done ≡ Ok x → (HasCleanDisk (state g new) → FailsToCommit (state g mid) (state g new) e) → Ends g mid new {B = B} done (Err fault)
   ends_refused it x fault e is fails = record {
     told = tt;
-    committed = λ clean ready. tt;
-    undone = λ clean ready. failed_undone (state g mid) (state g new) e (was_done done x is ready).inside (fails clean);
+    committed = λ l clean ready. tt;
+    undone = λ l clean ready. failed_undone (state g mid) (state g new) e (was_done done x is ready).inside (fails clean);
     survives = tried (state g mid) (state g new) done x is it;
   }
 
   pub ends_given_up : Survives (state g mid) (state g new) (λ _. ⊥) → (fault : Fault) → (HasCleanDisk (state g new) → IsRolledBack (state g mid) (state g new)) → Ends g mid new {B = B} done (Err fault)
   ends_given_up it fault undone = record {
     told = tt;
-    committed = λ clean ready. tt;
-    undone = λ clean ready. undone clean;
+    committed = λ l clean ready. tt;
+    undone = λ l clean ready. undone clean;
     survives = survives_weaker (state g mid) (state g new) _ _ (λ clean db none. absurd none) it;
   }

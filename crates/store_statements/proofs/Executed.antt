@@ -10,6 +10,7 @@ use Rattle.sqlite.specs.Values.{bound_value}
 use Rattle.sqlite.specs.State.{ExecutesInside, HasCleanDisk}
 use Rattle.sqlite.specs.Held.{Held, state}
 use Rattle.oci_types.specs.declared.fault.Fault.{Fault}
+use Rattle.store_contents.specs.Layouts.{Layout}
 use Rattle.store_statements.specs.Clauses.{KeepsInside}
 use Rattle.store_statements.specs.Held.{HoldsTables, IsReady}
 use Rattle.store_statements.proofs.CommitsKept.{kept_by_execute}
@@ -45,24 +46,24 @@ number_told P ran (Ok n) is p = subst (λ (x : Result _ Error). IfOk x P) is p
 
 module _ {S : Type 0} (g : Ghosts S) (old new : Held S) (sql : List ℕ) (row : Row) (ran : Result ℕ Error)
     (runs : HasCleanDisk (state g new) → IsTrue (state g old).in_transaction → ExecutesInside 0 sql row (state g old) (state g new) ran) where
-  pub keeps : KeepsInside g old new
-  keeps clean is = kept_by_execute sql row (state g old) (state g new) ran (runs clean is.inside)
+  pub keeps : (l : Layout) → KeepsInside g l old new
+  keeps l clean is = kept_by_execute sql row (state g old) (state g new) ran (runs clean is.inside)
 
   module _ (params : Row) (are : row ≡ params) where
     ran_so : HasCleanDisk (state g new) → IsTrue (state g old).in_transaction → ExecutesInside 0 sql params (state g old) (state g new) ran
     ran_so clean inside = subst (λ p. ExecutesInside 0 sql p (state g old) (state g new) ran) are (runs clean inside)
 
-    pub makes : {A : Type 0} (r : Result A Fault) (P : Type 0) → OnOk r (IsOk ran) → (HoldsTables (state g old).now → ExecutesInside 0 sql params (state g old) (state g new) ran → OnOk ran P) → HasCleanDisk (state g new) → IsReady (state g old) → OnOk r P
-    makes r P is so clean ready = told P ran r is (so ready.holds (ran_so clean ready.inside))
+    pub makes : {l : Layout} → {A : Type 0} (r : Result A Fault) (P : Type 0) → OnOk r (IsOk ran) → (HoldsTables l (state g old).now → ExecutesInside 0 sql params (state g old) (state g new) ran → OnOk ran P) → HasCleanDisk (state g new) → IsReady l (state g old) → OnOk r P
+    makes {l} r P is so clean ready = told P ran r is (so ready.holds (ran_so clean ready.inside))
 
     -- where this was so before
-    pub makes_from : {A : Type 0} (r : Result A Fault) (F P : Type 0) → OnOk r (IsOk ran) → (HoldsTables (state g old).now → F → ExecutesInside 0 sql params (state g old) (state g new) ran → OnOk ran P) → HasCleanDisk (state g new) → IsReady (state g old) → F → OnOk r P
-    makes_from r F P is so clean ready from = told P ran r is (so ready.holds from (ran_so clean ready.inside))
+    pub makes_from : {l : Layout} → {A : Type 0} (r : Result A Fault) (F P : Type 0) → OnOk r (IsOk ran) → (HoldsTables l (state g old).now → F → ExecutesInside 0 sql params (state g old) (state g new) ran → OnOk ran P) → HasCleanDisk (state g new) → IsReady l (state g old) → F → OnOk r P
+    makes_from {l} r F P is so clean ready from = told P ran r is (so ready.holds from (ran_so clean ready.inside))
 
     -- and the number of rows
-    pub makes_so_many : (r : Result ℕ Fault) (P : Type 0) (Q : ℕ → Type 0) → IfOk r (λ n. ran ≡ Ok n) → (HoldsTables (state g old).now → ExecutesInside 0 sql params (state g old) (state g new) ran → OnOk ran P × IfOk ran Q)
-        → (HasCleanDisk (state g new) → IsReady (state g old) → OnOk r P) × (HasCleanDisk (state g new) → IsReady (state g old) → IfOk r Q)
-    makes_so_many r P Q is so = (
+    pub makes_so_many : {l : Layout} → (r : Result ℕ Fault) (P : Type 0) (Q : ℕ → Type 0) → IfOk r (λ n. ran ≡ Ok n) → (HoldsTables l (state g old).now → ExecutesInside 0 sql params (state g old) (state g new) ran → OnOk ran P × IfOk ran Q)
+        → (HasCleanDisk (state g new) → IsReady l (state g old) → OnOk r P) × (HasCleanDisk (state g new) → IsReady l (state g old) → IfOk r Q)
+    makes_so_many {l} r P Q is so = (
       makes r P (as_counted ran r is) (λ holds run. (so holds run).0),
       λ clean ready. number_told Q ran r is (so ready.holds (ran_so clean ready.inside)).1,
     )

@@ -28,6 +28,7 @@ use Rattle.store_schema.specs.Ordered.{ordered_twice_from}
 use Rattle.store_schema.proofs.Lists.{bytes_eq-sym}
 use Rattle.store_schema.proofs.Pages.{out_of}
 use Rattle.store_schema.proofs.Selects.{Answer, chosen, stored_here, means_command}
+use Rattle.store_contents.specs.Layouts.{Layout}
 use Rattle.store_statements.specs.Keys.{same_key}
 use Rattle.store_statements.specs.Tables.{IsGrantRow, AreRows}
 use Rattle.store_statements.specs.GrantTexts.{grant_list_all}
@@ -82,17 +83,17 @@ in_order tree table some rows are e sorted =
     ∙ ap (λ xs. map (λ r. column r 2 ∷ column r 1 ∷ column r 3 ∷ []) (sort_by (by_query tree) xs)) e
     ∙ ap (map (λ r. column r 2 ∷ column r 1 ∷ column r 3 ∷ [])) (sort_same IsGrantRow (by_query tree) by_repo_and_token (compared tree) table are.types)
 
-listed : (old new : State) (rows : List Row) → HoldsTables old.now → Shown grant_list_all [] old new rows
-    → rows ≡ map (λ r. column r 2 ∷ column r 1 ∷ column r 3 ∷ []) (sort_by by_repo_and_token (held old).grants)
-listed old new rows h ran =
+listed : {l : Layout} → (old new : State) (rows : List Row) → HoldsTables l old.now → Shown grant_list_all [] old new rows
+    → rows ≡ map (λ r. column r 2 ∷ column r 1 ∷ column r 3 ∷ []) (sort_by by_repo_and_token (held l old).grants)
+listed {l} old new rows h ran =
     let tree = tree_of old.now.schema grants_table in
     let means = h.known.grant_texts.list_all in
     let read = reads_as grant_list_all [] old new old.now.schema refl _ (means_command old.now.schema grant_list_all _ means) means.plain means.unlisted rows ran in
-    in_order tree (held old).grants _ rows h.tables.grants
-    (ap (chosen [] []) (stored_here tree old.now.trees h.known.grants.stored) ∙ filter_all _ (held old).grants (all_of _ (λ r. refl) (held old).grants))
+    in_order tree (held l old).grants _ rows h.tables.grants
+    (ap (chosen [] []) (stored_here tree old.now.trees h.known.grants.stored) ∙ filter_all _ (held l old).grants (all_of _ (λ r. refl) (held l old).grants))
     (λ apart. ordered_by tree _ _ _ (overlay old.now.trees []) [] rows apart (read.answer Null))
 
-pub shows_grants : (old new : State) (r : Answer) → HoldsTables old.now → IfOk r (λ rows. Shown grant_list_all [] old new rows.items)
-    → IfOk r (λ rows. rows.items ≡ map (λ r. column r 2 ∷ column r 1 ∷ column r 3 ∷ []) (sort_by by_repo_and_token (held old).grants))
-shows_grants old new (Err e) h ran = tt
-shows_grants old new (Ok rows) h ran = listed old new rows.items h ran
+pub shows_grants : {l : Layout} → (old new : State) (r : Answer) → HoldsTables l old.now → IfOk r (λ rows. Shown grant_list_all [] old new rows.items)
+    → IfOk r (λ rows. rows.items ≡ map (λ r. column r 2 ∷ column r 1 ∷ column r 3 ∷ []) (sort_by by_repo_and_token (held l old).grants))
+shows_grants {l} old new (Err e) h ran = tt
+shows_grants {l} old new (Ok rows) h ran = listed old new rows.items h ran

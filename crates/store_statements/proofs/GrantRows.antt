@@ -17,6 +17,7 @@ use Rattle.store_schema.specs.Layout.{placed, equals}
 use Rattle.store_schema.proofs.Lists.{none_found}
 use Rattle.store_schema.proofs.Selects.{is_text, both_tests, one_test}
 use Rattle.store_schema.proofs.Writes.{passes, either}
+use Rattle.store_contents.specs.Layouts.{Layout}
 use Rattle.store_statements.specs.Keys.{has_key, of_first, of_second, same_key}
 use Rattle.store_statements.specs.Tables.{Tables, AreTables, AreRows, IsGrantRow, level_number, level_of}
 use Rattle.store_statements.specs.Changes.{with_level, grant_columns, Comes}
@@ -52,16 +53,16 @@ is_level level = ap (λ l. Int (pos (level_number l))) (sym (level_again level))
 
 -- ---- rows go
 
-took : (token repo : List ℕ) (old new : State) (n : ℕ) → HoldsTables old.now → Executes grant_take (Text token ∷ Text repo ∷ []) old new (Ok n) → (held new ≡ grants_without (has_key token repo) (held old)) × HoldsTables new.now
-took token repo old new n h ran = statements.takes grants_table IsGrantRow same_key (λ t rows. record t { grants = rows }) (λ schema k. k.grants) (λ a b k keeps rows e. only_grants a b k keeps rows e) (λ a b k keeps is. contents_beside_grants a b k keeps is) (λ db t. t.grants) put_are
+took : {l : Layout} → (token repo : List ℕ) (old new : State) (n : ℕ) → HoldsTables l old.now → Executes grant_take (Text token ∷ Text repo ∷ []) old new (Ok n) → (held l new ≡ grants_without (has_key token repo) (held l old)) × HoldsTables l new.now
+took {l} token repo old new n h ran = statements.takes grants_table IsGrantRow same_key (λ t rows. record t { grants = rows }) (λ schema k. k.grants) (λ a b k keeps rows e. only_grants a b k keeps rows e) (λ a b k keeps is. contents_beside_grants a b k keeps is) (λ db t. t.grants) put_are
     grant_take (equals 1 0 ∷ equals 2 1 ∷ []) (Text token ∷ Text repo ∷ []) (has_key token repo) old new n h h.known.grants_alone h.known.grant_texts.take (key_test token repo []) ran
 
-took_all : (repo : List ℕ) (old new : State) (n : ℕ) → HoldsTables old.now → Executes grant_take_all (Text repo ∷ []) old new (Ok n) → (held new ≡ grants_without (of_second repo) (held old)) × HoldsTables new.now
-took_all repo old new n h ran = statements.takes grants_table IsGrantRow same_key (λ t rows. record t { grants = rows }) (λ schema k. k.grants) (λ a b k keeps rows e. only_grants a b k keeps rows e) (λ a b k keeps is. contents_beside_grants a b k keeps is) (λ db t. t.grants) put_are
+took_all : {l : Layout} → (repo : List ℕ) (old new : State) (n : ℕ) → HoldsTables l old.now → Executes grant_take_all (Text repo ∷ []) old new (Ok n) → (held l new ≡ grants_without (of_second repo) (held l old)) × HoldsTables l new.now
+took_all {l} repo old new n h ran = statements.takes grants_table IsGrantRow same_key (λ t rows. record t { grants = rows }) (λ schema k. k.grants) (λ a b k keeps rows e. only_grants a b k keeps rows e) (λ a b k keeps is. contents_beside_grants a b k keeps is) (λ db t. t.grants) put_are
     grant_take_all (equals 2 0 ∷ []) (Text repo ∷ []) (of_second repo) old new n h h.known.grants_alone h.known.grant_texts.take_all (repo_test repo) ran
 
-took_token : (token : List ℕ) (old new : State) (n : ℕ) → HoldsTables old.now → Executes grant_take_token (Text token ∷ []) old new (Ok n) → (held new ≡ grants_without (of_first token) (held old)) × HoldsTables new.now
-took_token token old new n h ran = statements.takes grants_table IsGrantRow same_key (λ t rows. record t { grants = rows }) (λ schema k. k.grants) (λ a b k keeps rows e. only_grants a b k keeps rows e) (λ a b k keeps is. contents_beside_grants a b k keeps is) (λ db t. t.grants) put_are
+took_token : {l : Layout} → (token : List ℕ) (old new : State) (n : ℕ) → HoldsTables l old.now → Executes grant_take_token (Text token ∷ []) old new (Ok n) → (held l new ≡ grants_without (of_first token) (held l old)) × HoldsTables l new.now
+took_token {l} token old new n h ran = statements.takes grants_table IsGrantRow same_key (λ t rows. record t { grants = rows }) (λ schema k. k.grants) (λ a b k keeps rows e. only_grants a b k keeps rows e) (λ a b k keeps is. contents_beside_grants a b k keeps is) (λ db t. t.grants) put_are
     grant_take_token (equals 1 0 ∷ []) (Text token ∷ []) (of_first token) old new n h h.known.grants_alone h.known.grant_texts.take_token (token_test token) ran
 
 -- ---- a row changes
@@ -73,9 +74,9 @@ cast_set schema id token repo level = rw (either, either)
 cast_row_set : (schema : Schema) (level : Level) (r : Row) → IsGrantRow r → rowid r ≡ Int (id_in (rowid r)) → cast_row (placed schema grants_table) (with_level level r) ≡ with_level level r
 cast_row_set schema level r it id = rw (id, it.token, it.repo) (cast_set schema _ _ _ level)
 
-was_set : (token repo : List ℕ) (level : Level) (old new : State) (n : ℕ) → HoldsTables old.now → Executes grant_set_level (Text token ∷ Text repo ∷ Int (pos (level_number level)) ∷ []) old new (Ok n)
-    → (n ≡ length (filter (has_key token repo) (held old).grants)) × (held new ≡ grants_changed (has_key token repo) (with_level level) (held old)) × HoldsTables new.now
-was_set token repo level old new n h ran = statements.changes grants_table IsGrantRow same_key (λ t rows. record t { grants = rows }) (λ schema k. k.grants) (λ a b k keeps rows e. only_grants a b k keeps rows e) (λ a b k keeps is. contents_beside_grants a b k keeps is) (λ db t. t.grants) put_are
+was_set : {l : Layout} → (token repo : List ℕ) (level : Level) (old new : State) (n : ℕ) → HoldsTables l old.now → Executes grant_set_level (Text token ∷ Text repo ∷ Int (pos (level_number level)) ∷ []) old new (Ok n)
+    → (n ≡ length (filter (has_key token repo) (held l old).grants)) × (held l new ≡ grants_changed (has_key token repo) (with_level level) (held l old)) × HoldsTables l new.now
+was_set {l} token repo level old new n h ran = statements.changes grants_table IsGrantRow same_key (λ t rows. record t { grants = rows }) (λ schema k. k.grants) (λ a b k keeps rows e. only_grants a b k keeps rows e) (λ a b k keeps is. contents_beside_grants a b k keeps is) (λ db t. t.grants) put_are
     grant_set_level (equals 1 0 ∷ equals 2 1 ∷ []) _ (Text token ∷ Text repo ∷ Int (pos (level_number level)) ∷ []) (has_key token repo) (with_level level) old new n h h.known.grant_texts.set_level (key_test token repo (Int (pos (level_number level)) ∷ []))
     (key_parts token repo) (λ r. refl) (λ r. refl) (cast_row_set old.now.schema level)
     (λ r it. record { token = it.token; repo = it.repo; level = is_level level }) (λ a r. refl) (λ a r. refl) ran
@@ -86,32 +87,32 @@ cast_come : (schema : Schema) (token repo : List ℕ) (level : Level) → cast_r
 unfolding unary
 cast_come schema token repo level = rw (either, either)
 
-came : (token repo : List ℕ) (level : Level) (old new : State) (n : ℕ) → HoldsTables old.now → find (has_key token repo) (held old).grants ≡ None → Executes grant_add (Text token ∷ Text repo ∷ Int (pos (level_number level)) ∷ []) old new (Ok n)
-    → Comes (held old).grants (held new).grants (grant_columns token repo level) × (held new ≡ record (held old) { grants = (held new).grants }) × HoldsTables new.now
-came token repo level old new n h fresh ran = statements.comes grants_table IsGrantRow same_key (λ t rows. record t { grants = rows }) (λ schema k. k.grants) (λ a b k keeps rows e. only_grants a b k keeps rows e) (λ a b k keeps is. contents_beside_grants a b k keeps is) (λ db t. t.grants) put_are
+came : {l : Layout} → (token repo : List ℕ) (level : Level) (old new : State) (n : ℕ) → HoldsTables l old.now → find (has_key token repo) (held l old).grants ≡ None → Executes grant_add (Text token ∷ Text repo ∷ Int (pos (level_number level)) ∷ []) old new (Ok n)
+    → Comes (held l old).grants (held l new).grants (grant_columns token repo level) × (held l new ≡ record (held l old) { grants = (held l new).grants }) × HoldsTables l new.now
+came {l} token repo level old new n h fresh ran = statements.comes grants_table IsGrantRow same_key (λ t rows. record t { grants = rows }) (λ schema k. k.grants) (λ a b k keeps rows e. only_grants a b k keeps rows e) (λ a b k keeps is. contents_beside_grants a b k keeps is) (λ db t. t.grants) put_are
     grant_add _ 4 (Text token ∷ Text repo ∷ Int (pos (level_number level)) ∷ []) (grant_columns token repo level) old new n h h.known.grant_texts.add refl refl refl (cast_come old.now.schema token repo level)
     (λ id. record { token = refl; repo = refl; level = is_level level }) key_turned (λ id. none_found (has_key token repo) _ fresh) ran
 
 -- ---- the same of a call's result, inside a transaction
 
-pub took_by : (token repo : List ℕ) (old new : State) (r : Result ℕ Error) → HoldsTables old.now → ExecutesInside 0 grant_take (Text token ∷ Text repo ∷ []) old new r → OnOk r (Becomes new (grants_without (has_key token repo) (held old)))
-took_by token repo old new (Err e) h ran = tt
-took_by token repo old new (Ok n) h ran = let it = took token repo old new n h ran.0 in (record { inside = ran.1.mode; holds = it.1 }, it.0)
+pub took_by : {l : Layout} → (token repo : List ℕ) (old new : State) (r : Result ℕ Error) → HoldsTables l old.now → ExecutesInside 0 grant_take (Text token ∷ Text repo ∷ []) old new r → OnOk r (Becomes l new (grants_without (has_key token repo) (held l old)))
+took_by {l} token repo old new (Err e) h ran = tt
+took_by {l} token repo old new (Ok n) h ran = let it = took token repo old new n h ran.0 in (record { inside = ran.1.mode; holds = it.1 }, it.0)
 
-pub took_all_by : (repo : List ℕ) (old new : State) (r : Result ℕ Error) → HoldsTables old.now → ExecutesInside 0 grant_take_all (Text repo ∷ []) old new r → OnOk r (Becomes new (grants_without (of_second repo) (held old)))
-took_all_by repo old new (Err e) h ran = tt
-took_all_by repo old new (Ok n) h ran = let it = took_all repo old new n h ran.0 in (record { inside = ran.1.mode; holds = it.1 }, it.0)
+pub took_all_by : {l : Layout} → (repo : List ℕ) (old new : State) (r : Result ℕ Error) → HoldsTables l old.now → ExecutesInside 0 grant_take_all (Text repo ∷ []) old new r → OnOk r (Becomes l new (grants_without (of_second repo) (held l old)))
+took_all_by {l} repo old new (Err e) h ran = tt
+took_all_by {l} repo old new (Ok n) h ran = let it = took_all repo old new n h ran.0 in (record { inside = ran.1.mode; holds = it.1 }, it.0)
 
-pub took_token_by : (token : List ℕ) (old new : State) (r : Result ℕ Error) → HoldsTables old.now → ExecutesInside 0 grant_take_token (Text token ∷ []) old new r → OnOk r (Becomes new (grants_without (of_first token) (held old)))
-took_token_by token old new (Err e) h ran = tt
-took_token_by token old new (Ok n) h ran = let it = took_token token old new n h ran.0 in (record { inside = ran.1.mode; holds = it.1 }, it.0)
+pub took_token_by : {l : Layout} → (token : List ℕ) (old new : State) (r : Result ℕ Error) → HoldsTables l old.now → ExecutesInside 0 grant_take_token (Text token ∷ []) old new r → OnOk r (Becomes l new (grants_without (of_first token) (held l old)))
+took_token_by {l} token old new (Err e) h ran = tt
+took_token_by {l} token old new (Ok n) h ran = let it = took_token token old new n h ran.0 in (record { inside = ran.1.mode; holds = it.1 }, it.0)
 
-pub set_by : (token repo : List ℕ) (level : Level) (old new : State) (r : Result ℕ Error) → HoldsTables old.now → ExecutesInside 0 grant_set_level (Text token ∷ Text repo ∷ Int (pos (level_number level)) ∷ []) old new r
-    → OnOk r (Becomes new (grants_changed (has_key token repo) (with_level level) (held old))) × IfOk r (λ n. n ≡ length (filter (has_key token repo) (held old).grants))
-set_by token repo level old new (Err e) h ran = (tt, tt)
-set_by token repo level old new (Ok n) h ran = let it = was_set token repo level old new n h ran.0 in ((record { inside = ran.1.mode; holds = it.2 }, it.1), it.0)
+pub set_by : {l : Layout} → (token repo : List ℕ) (level : Level) (old new : State) (r : Result ℕ Error) → HoldsTables l old.now → ExecutesInside 0 grant_set_level (Text token ∷ Text repo ∷ Int (pos (level_number level)) ∷ []) old new r
+    → OnOk r (Becomes l new (grants_changed (has_key token repo) (with_level level) (held l old))) × IfOk r (λ n. n ≡ length (filter (has_key token repo) (held l old).grants))
+set_by {l} token repo level old new (Err e) h ran = (tt, tt)
+set_by {l} token repo level old new (Ok n) h ran = let it = was_set token repo level old new n h ran.0 in ((record { inside = ran.1.mode; holds = it.2 }, it.1), it.0)
 
-pub added_by : (token repo : List ℕ) (level : Level) (old new : State) (r : Result ℕ Error) → HoldsTables old.now → find (has_key token repo) (held old).grants ≡ None → ExecutesInside 0 grant_add (Text token ∷ Text repo ∷ Int (pos (level_number level)) ∷ []) old new r
-    → OnOk r (GrantComes old new (grant_columns token repo level))
-added_by token repo level old new (Err e) h fresh ran = tt
-added_by token repo level old new (Ok n) h fresh ran = let it = came token repo level old new n h fresh ran.0 in record { ready = record { inside = ran.1.mode; holds = it.2 }; comes = it.0; others = it.1 }
+pub added_by : {l : Layout} → (token repo : List ℕ) (level : Level) (old new : State) (r : Result ℕ Error) → HoldsTables l old.now → find (has_key token repo) (held l old).grants ≡ None → ExecutesInside 0 grant_add (Text token ∷ Text repo ∷ Int (pos (level_number level)) ∷ []) old new r
+    → OnOk r (GrantComes l old new (grant_columns token repo level))
+added_by {l} token repo level old new (Err e) h fresh ran = tt
+added_by {l} token repo level old new (Ok n) h fresh ran = let it = came token repo level old new n h fresh ran.0 in record { ready = record { inside = ran.1.mode; holds = it.2 }; comes = it.0; others = it.1 }

@@ -23,7 +23,6 @@ pub mod Pages
 pub mod Referrers
 pub mod Usages
 pub mod Levels
-pub mod Sorting
 pub mod PieceWorlds
 pub mod SessionMaps
 pub mod SessionReads

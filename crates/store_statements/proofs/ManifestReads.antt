@@ -15,6 +15,7 @@ use Rattle.oci_types.specs.Digest.{is_digest}
 use Rattle.sqlite.specs.Order.{column, bytes}
 use Rattle.sqlite.specs.State.{State, Shown}
 use Rattle.store_schema.proofs.Selects.{Answer, shows, is_text, one_test, both_tests}
+use Rattle.store_contents.specs.Layouts.{Layout}
 use Rattle.store_statements.specs.Keys.{of_first, has_key, on_subject}
 use Rattle.store_statements.specs.Tables.{IsManifestRow}
 use Rattle.store_statements.specs.ManifestTexts.{manifest_find, manifest_subject, manifest_sizes, manifest_contents}
@@ -24,22 +25,22 @@ use Rattle.store_statements.proofs.InOrder.{orders}
 use Rattle.store_statements.specs.ManifestShown.{by_second}
 use Rattle.store_statements.proofs.SelectedRows.{lists, finds}
 
-pub link_rows_shown : (old new : State) (repo digest : List ℕ) (r : Answer) → HoldsTables old.now → IfOk r (λ rows. Shown manifest_find (Text repo ∷ Text digest ∷ []) old new rows.items)
-    → IfOk r (λ rows. rows.items ≡ map (λ r. column r 3 ∷ column r 4 ∷ column r 6 ∷ []) (option_to_list (find (has_key repo digest) (held old).manifests)))
-link_rows_shown old new repo digest r h ran = finds IsManifestRow manifest_find _ _ _ _ (Text repo ∷ Text digest ∷ []) (has_key repo digest) old new h.known.manifests.stored h.tables.manifests.types h.known.manifest_texts.find
+pub link_rows_shown : {l : Layout} → (old new : State) (repo digest : List ℕ) (r : Answer) → HoldsTables l old.now → IfOk r (λ rows. Shown manifest_find (Text repo ∷ Text digest ∷ []) old new rows.items)
+    → IfOk r (λ rows. rows.items ≡ map (λ r. column r 3 ∷ column r 4 ∷ column r 6 ∷ []) (option_to_list (find (has_key repo digest) (held l old).manifests)))
+link_rows_shown {l} old new repo digest r h ran = finds IsManifestRow manifest_find _ _ _ _ (Text repo ∷ Text digest ∷ []) (has_key repo digest) old new h.known.manifests.stored h.tables.manifests.types h.known.manifest_texts.find
     (λ r it. both_tests _ _ _ _ (is_text (column r 1) _ repo it.repo) (is_text (column r 2) _ digest it.digest)) _ (key_parts repo digest) h.tables.manifests.apart r ran
 
-pub sizes_shown : (old new : State) (repo : List ℕ) (r : Answer) → HoldsTables old.now → IfOk r (λ rows. Shown manifest_sizes (Text repo ∷ []) old new rows.items)
-    → IfOk r (λ rows. IsPermutation (map (λ r. column r 3 ∷ []) (filter (of_first repo) (held old).manifests)) rows.items)
-sizes_shown old new repo r h ran = lists IsManifestRow manifest_sizes _ _ _ _ (Text repo ∷ []) (of_first repo) old new h.known.manifests.stored h.tables.manifests.types h.known.manifest_texts.sizes
+pub sizes_shown : {l : Layout} → (old new : State) (repo : List ℕ) (r : Answer) → HoldsTables l old.now → IfOk r (λ rows. Shown manifest_sizes (Text repo ∷ []) old new rows.items)
+    → IfOk r (λ rows. IsPermutation (map (λ r. column r 3 ∷ []) (filter (of_first repo) (held l old).manifests)) rows.items)
+sizes_shown {l} old new repo r h ran = lists IsManifestRow manifest_sizes _ _ _ _ (Text repo ∷ []) (of_first repo) old new h.known.manifests.stored h.tables.manifests.types h.known.manifest_texts.sizes
     (λ r it. one_test _ _ (is_text (column r 1) _ repo it.repo)) r ran
 
 -- of all rows
-pub contents_shown : (old new : State) (r : Answer) → HoldsTables old.now → IfOk r (λ rows. Shown manifest_contents [] old new rows.items)
-    → IfOk r (λ rows. IsPermutation (map (λ r. column r 6 ∷ []) (held old).manifests) rows.items)
-contents_shown old new (Err e) h ran = tt
-contents_shown old new (Ok rows) h ran =
-    subst (λ xs. IsPermutation (map (λ r. column r 6 ∷ []) xs) rows.items) (filter_all _ (held old).manifests (all_of _ (λ r. refl) (held old).manifests))
+pub contents_shown : {l : Layout} → (old new : State) (r : Answer) → HoldsTables l old.now → IfOk r (λ rows. Shown manifest_contents [] old new rows.items)
+    → IfOk r (λ rows. IsPermutation (map (λ r. column r 6 ∷ []) (held l old).manifests) rows.items)
+contents_shown {l} old new (Err e) h ran = tt
+contents_shown {l} old new (Ok rows) h ran =
+    subst (λ xs. IsPermutation (map (λ r. column r 6 ∷ []) xs) rows.items) (filter_all _ (held l old).manifests (all_of _ (λ r. refl) (held l old).manifests))
     (shows old.now.schema manifest_contents _ _ [] _ [] old new rows.items refl h.known.manifest_texts.contents h.known.manifests.stored ran)
 
 -- ---- by their subject
@@ -51,8 +52,8 @@ subject_test v [] d e = absurd (let x = d in cc)
 subject_test v (b ∷ bs) d (inl e) = rw e refl
 subject_test v (b ∷ bs) d (inr e) = is_text v (bytes v) (b ∷ bs) e
 
-pub subject_shown : (old new : State) (repo digest : List ℕ) (r : Answer) → HoldsTables old.now → is_digest digest ≡ true → IfOk r (λ rows. Shown manifest_subject (Text repo ∷ Text digest ∷ []) old new rows.items)
-    → IfOk r (λ rows. rows.items ≡ map (λ r. column r 2 ∷ column r 6 ∷ []) (sort_by by_second (filter (on_subject repo digest) (held old).manifests)))
-subject_shown old new repo digest r h is ran = orders IsManifestRow manifest_subject _ _ _ _ _ (Text repo ∷ Text digest ∷ []) (on_subject repo digest) repo old new r
+pub subject_shown : {l : Layout} → (old new : State) (repo digest : List ℕ) (r : Answer) → HoldsTables l old.now → is_digest digest ≡ true → IfOk r (λ rows. Shown manifest_subject (Text repo ∷ Text digest ∷ []) old new rows.items)
+    → IfOk r (λ rows. rows.items ≡ map (λ r. column r 2 ∷ column r 6 ∷ []) (sort_by by_second (filter (on_subject repo digest) (held l old).manifests)))
+subject_shown {l} old new repo digest r h is ran = orders IsManifestRow manifest_subject _ _ _ _ _ (Text repo ∷ Text digest ∷ []) (on_subject repo digest) repo old new r
     h.known.manifests.stored h.tables.manifests.types h.tables.manifests.apart h.known.manifest_texts.subject
     (λ r it. both_tests _ _ _ _ (is_text (column r 1) _ repo it.repo) (subject_test (column r 5) digest is it.subject)) (λ r it. it.digest) (λ r e. (both_true _ _ e).0) ran

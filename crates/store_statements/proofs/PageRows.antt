@@ -19,6 +19,7 @@ use Rattle.sqlite.specs.Query.{limited, as_count}
 use Rattle.sqlite.specs.State.{State, Shown}
 use Rattle.store_schema.proofs.Selects.{Answer, is_text, both_tests, map-map}
 use Rattle.registry_model.specs.TagPage.{first_of, more_than}
+use Rattle.store_contents.specs.Layouts.{Layout}
 use Rattle.store_statements.specs.Tables.{IsTagRow}
 use Rattle.store_statements.specs.TagTexts.{tag_page}
 use Rattle.store_statements.specs.Held.{HoldsTables, held}
@@ -46,9 +47,9 @@ behind_text t s = truth (is_gt (value_cmp (Text t) (Text s))) ∙ ap is_gt (valu
 is_behind : (v : Value) (t s : List ℕ) → v ≡ Text t → is_true (binary (Compare Gt Binary) v (Text s)) ≡ is_lt (slice_cmp nat_cmp s t)
 is_behind v t s e = rw e (behind_text t s)
 
-pub page_shown : (old new : State) (repo last : List ℕ) (limit : ℤ) (r : Answer) → HoldsTables old.now → IfOk r (λ rows. Shown tag_page (Text repo ∷ Text last ∷ Int limit ∷ []) old new rows.items)
-    → IfOk r (λ rows. rows.items ≡ limited (as_count (Int limit)) (map (λ r. column r 2 ∷ []) (sort_by by_second (filter (tag_behind repo last) (held old).tags))))
-page_shown old new repo last limit r h ran = orders IsTagRow tag_page _ _ _ _ _ (Text repo ∷ Text last ∷ Int limit ∷ []) (tag_behind repo last) repo old new r
+pub page_shown : {l : Layout} → (old new : State) (repo last : List ℕ) (limit : ℤ) (r : Answer) → HoldsTables l old.now → IfOk r (λ rows. Shown tag_page (Text repo ∷ Text last ∷ Int limit ∷ []) old new rows.items)
+    → IfOk r (λ rows. rows.items ≡ limited (as_count (Int limit)) (map (λ r. column r 2 ∷ []) (sort_by by_second (filter (tag_behind repo last) (held l old).tags))))
+page_shown {l} old new repo last limit r h ran = orders IsTagRow tag_page _ _ _ _ _ (Text repo ∷ Text last ∷ Int limit ∷ []) (tag_behind repo last) repo old new r
     h.known.tags.stored h.tables.tags.types h.tables.tags.apart h.known.tag_texts.page
     (λ r it. both_tests _ _ _ _ (is_text (column r 1) _ repo it.repo) (is_behind (column r 2) _ last it.tag)) (λ r it. it.tag) (λ r e. (both_true _ _ e).0) ran
 

@@ -16,6 +16,7 @@ use Rattle.sqlite.specs.Program.{overlay}
 use Rattle.sqlite.proofs.Callers.{reads_as}
 use Rattle.store_schema.specs.Rows.{natural_at}
 use Rattle.store_schema.proofs.Pages.{out_of}
+use Rattle.store_contents.specs.Layouts.{Layout}
 use Rattle.store_statements.specs.World.{by_start, pieces_of}
 use Rattle.store_schema.specs.Ordered.{ordered_from}
 use Rattle.sqlite.specs.declared.types.Value.TheVariants.{Null, Int, Text}
@@ -53,43 +54,43 @@ session_test repo number r it = both_tests _ _ _ _ (is_text (column r 1) _ repo 
 repo_test : (repo : List ℕ) (r : Row) → IsPieceRow r → passes (Text repo ∷ []) (equals 1 0 ∷ []) r ≡ of_first repo r
 repo_test repo r it = one_test _ _ (is_text (column r 1) _ repo it.repo)
 
-took_of : (repo : List ℕ) (number : ℕ) (old new : State) (n : ℕ) → HoldsTables old.now → Executes piece_take_of (Text repo ∷ Int (pos number) ∷ []) old new (Ok n) → (held new ≡ pieces_without (of_session repo number) (held old)) × HoldsTables new.now
-took_of repo number old new n h ran = statements.takes pieces_table IsPieceRow same_start (λ t rows. record t { pieces = rows }) (λ schema k. k.pieces) (λ a b k keeps rows e. only_pieces a b k keeps rows e) (λ a b k keeps is. contents_beside_pieces a b k keeps is) (λ db t. t.pieces) put_are
+took_of : {l : Layout} → (repo : List ℕ) (number : ℕ) (old new : State) (n : ℕ) → HoldsTables l old.now → Executes piece_take_of (Text repo ∷ Int (pos number) ∷ []) old new (Ok n) → (held l new ≡ pieces_without (of_session repo number) (held l old)) × HoldsTables l new.now
+took_of {l} repo number old new n h ran = statements.takes pieces_table IsPieceRow same_start (λ t rows. record t { pieces = rows }) (λ schema k. k.pieces) (λ a b k keeps rows e. only_pieces a b k keeps rows e) (λ a b k keeps is. contents_beside_pieces a b k keeps is) (λ db t. t.pieces) put_are
     piece_take_of (equals 1 0 ∷ equals 2 1 ∷ []) (Text repo ∷ Int (pos number) ∷ []) (of_session repo number) old new n h h.known.pieces_alone h.known.piece_texts.take_of (session_test repo number) ran
 
-took_all : (repo : List ℕ) (old new : State) (n : ℕ) → HoldsTables old.now → Executes piece_take_all (Text repo ∷ []) old new (Ok n) → (held new ≡ pieces_without (of_first repo) (held old)) × HoldsTables new.now
-took_all repo old new n h ran = statements.takes pieces_table IsPieceRow same_start (λ t rows. record t { pieces = rows }) (λ schema k. k.pieces) (λ a b k keeps rows e. only_pieces a b k keeps rows e) (λ a b k keeps is. contents_beside_pieces a b k keeps is) (λ db t. t.pieces) put_are
+took_all : {l : Layout} → (repo : List ℕ) (old new : State) (n : ℕ) → HoldsTables l old.now → Executes piece_take_all (Text repo ∷ []) old new (Ok n) → (held l new ≡ pieces_without (of_first repo) (held l old)) × HoldsTables l new.now
+took_all {l} repo old new n h ran = statements.takes pieces_table IsPieceRow same_start (λ t rows. record t { pieces = rows }) (λ schema k. k.pieces) (λ a b k keeps rows e. only_pieces a b k keeps rows e) (λ a b k keeps is. contents_beside_pieces a b k keeps is) (λ db t. t.pieces) put_are
     piece_take_all (equals 1 0 ∷ []) (Text repo ∷ []) (of_first repo) old new n h h.known.pieces_alone h.known.piece_texts.take_all (repo_test repo) ran
 
 cast_come : (schema : Schema) (repo : List ℕ) (number start size : ℕ) (content : ℤ) → cast_row (placed schema pieces_table) (Null ∷ piece_columns repo number start size content) ≡ Null ∷ piece_columns repo number start size content
 unfolding unary
 cast_come schema repo number start size content = rw (either, either, either, either, either)
 
-came : (repo : List ℕ) (number start size : ℕ) (content : ℤ) (old new : State) (n : ℕ) → HoldsTables old.now → find (has_start repo number start) (held old).pieces ≡ None → Executes piece_add (piece_columns repo number start size content) old new (Ok n)
-    → Comes (held old).pieces (held new).pieces (piece_columns repo number start size content) × (held new ≡ record (held old) { pieces = (held new).pieces }) × HoldsTables new.now
-came repo number start size content old new n h fresh ran = statements.comes pieces_table IsPieceRow same_start (λ t rows. record t { pieces = rows }) (λ schema k. k.pieces) (λ a b k keeps rows e. only_pieces a b k keeps rows e) (λ a b k keeps is. contents_beside_pieces a b k keeps is) (λ db t. t.pieces) put_are
+came : {l : Layout} → (repo : List ℕ) (number start size : ℕ) (content : ℤ) (old new : State) (n : ℕ) → HoldsTables l old.now → find (has_start repo number start) (held l old).pieces ≡ None → Executes piece_add (piece_columns repo number start size content) old new (Ok n)
+    → Comes (held l old).pieces (held l new).pieces (piece_columns repo number start size content) × (held l new ≡ record (held l old) { pieces = (held l new).pieces }) × HoldsTables l new.now
+came {l} repo number start size content old new n h fresh ran = statements.comes pieces_table IsPieceRow same_start (λ t rows. record t { pieces = rows }) (λ schema k. k.pieces) (λ a b k keeps rows e. only_pieces a b k keeps rows e) (λ a b k keeps is. contents_beside_pieces a b k keeps is) (λ db t. t.pieces) put_are
     piece_add _ 6 (piece_columns repo number start size content) (piece_columns repo number start size content) old new n h h.known.piece_texts.add refl refl refl (cast_come old.now.schema repo number start size content)
     (λ id. record { repo = refl; number = refl; start = refl; size = refl; content = refl }) start_turned (λ id. none_found (has_start repo number start) _ fresh) ran
 
 -- ---- the same of a call's result, inside a transaction
 
-pub took_of_by : (repo : List ℕ) (number : ℕ) (old new : State) (r : Result ℕ Error) → HoldsTables old.now → ExecutesInside 0 piece_take_of (Text repo ∷ Int (pos number) ∷ []) old new r → OnOk r (Becomes new (pieces_without (of_session repo number) (held old)))
-took_of_by repo number old new (Err e) h ran = tt
-took_of_by repo number old new (Ok n) h ran = let it = took_of repo number old new n h ran.0 in (record { inside = ran.1.mode; holds = it.1 }, it.0)
+pub took_of_by : {l : Layout} → (repo : List ℕ) (number : ℕ) (old new : State) (r : Result ℕ Error) → HoldsTables l old.now → ExecutesInside 0 piece_take_of (Text repo ∷ Int (pos number) ∷ []) old new r → OnOk r (Becomes l new (pieces_without (of_session repo number) (held l old)))
+took_of_by {l} repo number old new (Err e) h ran = tt
+took_of_by {l} repo number old new (Ok n) h ran = let it = took_of repo number old new n h ran.0 in (record { inside = ran.1.mode; holds = it.1 }, it.0)
 
-pub took_all_by : (repo : List ℕ) (old new : State) (r : Result ℕ Error) → HoldsTables old.now → ExecutesInside 0 piece_take_all (Text repo ∷ []) old new r → OnOk r (Becomes new (pieces_without (of_first repo) (held old)))
-took_all_by repo old new (Err e) h ran = tt
-took_all_by repo old new (Ok n) h ran = let it = took_all repo old new n h ran.0 in (record { inside = ran.1.mode; holds = it.1 }, it.0)
+pub took_all_by : {l : Layout} → (repo : List ℕ) (old new : State) (r : Result ℕ Error) → HoldsTables l old.now → ExecutesInside 0 piece_take_all (Text repo ∷ []) old new r → OnOk r (Becomes l new (pieces_without (of_first repo) (held l old)))
+took_all_by {l} repo old new (Err e) h ran = tt
+took_all_by {l} repo old new (Ok n) h ran = let it = took_all repo old new n h ran.0 in (record { inside = ran.1.mode; holds = it.1 }, it.0)
 
-pub added_by : (repo : List ℕ) (number start size : ℕ) (content : ℤ) (old new : State) (r : Result ℕ Error) → HoldsTables old.now → find (has_start repo number start) (held old).pieces ≡ None → ExecutesInside 0 piece_add (piece_columns repo number start size content) old new r
-    → OnOk r (PieceComes old new (piece_columns repo number start size content))
-added_by repo number start size content old new (Err e) h fresh ran = tt
-added_by repo number start size content old new (Ok n) h fresh ran = let it = came repo number start size content old new n h fresh ran.0 in record { ready = record { inside = ran.1.mode; holds = it.2 }; comes = it.0; others = it.1 }
+pub added_by : {l : Layout} → (repo : List ℕ) (number start size : ℕ) (content : ℤ) (old new : State) (r : Result ℕ Error) → HoldsTables l old.now → find (has_start repo number start) (held l old).pieces ≡ None → ExecutesInside 0 piece_add (piece_columns repo number start size content) old new r
+    → OnOk r (PieceComes l old new (piece_columns repo number start size content))
+added_by {l} repo number start size content old new (Err e) h fresh ran = tt
+added_by {l} repo number start size content old new (Ok n) h fresh ran = let it = came repo number start size content old new n h fresh ran.0 in record { ready = record { inside = ran.1.mode; holds = it.2 }; comes = it.0; others = it.1 }
 
 -- ---- what is read
 
-pub content_rows : (old new : State) (r : Answer) → HoldsTables old.now → IfOk r (λ rows. Shown piece_contents [] old new rows.items) → IfOk r (λ rows. IsPermutation (map (λ r. column r 5 ∷ []) (held old).pieces) rows.items)
-content_rows old new r h ran = subst (λ xs. IfOk r (λ rows. IsPermutation (map (λ r. column r 5 ∷ []) xs) rows.items)) (filter_all (λ _. true) _ (all_of _ (λ r. refl) _))
+pub content_rows : {l : Layout} → (old new : State) (r : Answer) → HoldsTables l old.now → IfOk r (λ rows. Shown piece_contents [] old new rows.items) → IfOk r (λ rows. IsPermutation (map (λ r. column r 5 ∷ []) (held l old).pieces) rows.items)
+content_rows {l} old new r h ran = subst (λ xs. IfOk r (λ rows. IsPermutation (map (λ r. column r 5 ∷ []) xs) rows.items)) (filter_all (λ _. true) _ (all_of _ (λ r. refl) _))
     (lists pieces_table IsPieceRow same_start piece_contents _ [] _ [] (λ _. true) old new r h.known.piece_texts.contents h.known.pieces.stored h.tables.pieces (λ r it. refl) ran)
 
 -- in order of where they begin
@@ -128,18 +129,18 @@ in_order tree params repo number table some rows are e sorted =
     ∙ ap (λ xs. map (λ r. column r 5 ∷ []) (sort_by (λ a b. output_cmp (of_list tree) (out_of (of_list tree) params a) (out_of (of_list tree) params b)) xs)) e
     ∙ ap (map (λ r. column r 5 ∷ [])) (sort_same (IsOf repo number) _ by_start (starts_compared tree params repo number) (filter p table) all)
 
-listed : (repo : List ℕ) (number : ℕ) (old new : State) (rows : List Row) → HoldsTables old.now → Shown piece_list (Text repo ∷ Int (pos number) ∷ []) old new rows → rows ≡ map (λ r. column r 5 ∷ []) (pieces_of (held old).pieces repo number)
-listed repo number old new rows h ran =
+listed : {l : Layout} → (repo : List ℕ) (number : ℕ) (old new : State) (rows : List Row) → HoldsTables l old.now → Shown piece_list (Text repo ∷ Int (pos number) ∷ []) old new rows → rows ≡ map (λ r. column r 5 ∷ []) (pieces_of (held l old).pieces repo number)
+listed {l} repo number old new rows h ran =
     let tree = tree_of old.now.schema pieces_table in
     let params = Text repo ∷ Int (pos number) ∷ [] in
     let means = h.known.piece_texts.list in
     let read = reads_as piece_list params old new old.now.schema refl _ (means_command old.now.schema piece_list _ means) means.plain means.unlisted rows ran in
-    in_order tree params repo number (held old).pieces _ rows h.tables.pieces
+    in_order tree params repo number (held l old).pieces _ rows h.tables.pieces
     (ap (chosen params (equals 1 0 ∷ equals 2 1 ∷ [])) (stored_here tree old.now.trees h.known.pieces.stored)
     ∙ filter_same _ _ _ (all_weaker IsPieceRow (λ r. passes params (equals 1 0 ∷ equals 2 1 ∷ []) r ≡ of_session repo number r) (session_test repo number) _ h.tables.pieces.types))
     (λ apart. ordered tree 3 _ _ (overlay old.now.trees []) params rows apart (read.answer Null))
 
-pub list_rows : (repo : List ℕ) (number : ℕ) (old new : State) (r : Answer) → HoldsTables old.now → IfOk r (λ rows. Shown piece_list (Text repo ∷ Int (pos number) ∷ []) old new rows.items)
-    → IfOk r (λ rows. rows.items ≡ map (λ r. column r 5 ∷ []) (pieces_of (held old).pieces repo number))
-list_rows repo number old new (Err e) h ran = tt
-list_rows repo number old new (Ok rows) h ran = listed repo number old new rows.items h ran
+pub list_rows : {l : Layout} → (repo : List ℕ) (number : ℕ) (old new : State) (r : Answer) → HoldsTables l old.now → IfOk r (λ rows. Shown piece_list (Text repo ∷ Int (pos number) ∷ []) old new rows.items)
+    → IfOk r (λ rows. rows.items ≡ map (λ r. column r 5 ∷ []) (pieces_of (held l old).pieces repo number))
+list_rows {l} repo number old new (Err e) h ran = tt
+list_rows {l} repo number old new (Ok rows) h ran = listed repo number old new rows.items h ran

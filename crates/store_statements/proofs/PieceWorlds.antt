@@ -22,7 +22,7 @@ use Rattle.store_statements.proofs.Reach.{reach_below, reach_more, reach_length,
 use Rattle.store_statements.proofs.Apart.{none_passes}
 use Rattle.store_statements.proofs.Others.{filter_came}
 use Rattle.store_statements.proofs.ContentWorlds.{starts_total, all-pieces_of}
-use Rattle.store_statements.proofs.Sorting.{all_unsorted, sorted_last}
+use Rattle.store_contents.proofs.Sorting.{all_unsorted, sorted_last}
 
 -- the rows that pass, where the row that came passes too
 pub filter_put_here : (p : Row → Bool) (olds news : List Row) (id : ℤ) (columns : Row) (h : PutsRow olds news id columns) → p (Int id ∷ columns) ≡ true → filter p news ≡ filter p h.before ++ (Int id ∷ columns) ∷ filter p h.after

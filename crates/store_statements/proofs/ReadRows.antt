@@ -14,6 +14,7 @@ use Rattle.sqlite.specs.declared.error.Error.{Error}
 use Rattle.oci_types.specs.declared.fault.Fault.{Fault}
 use Rattle.oci_types.specs.declared.fault.Fault.TheVariants.{Memory}
 use Rattle.store_schema.proofs.Selects.{Answer, leaves_all, left_by_query, query_survives, survives_both}
+use Rattle.store_contents.specs.Layouts.{Layout}
 use Rattle.store_statements.specs.Between.{Stays, Keeps}
 use Rattle.store_statements.specs.Clauses.{Lasts}
 use Rattle.store_statements.specs.Held.{HoldsTables, IsSettled, StaysSettled, LeavesAsWas, is_storage}
@@ -63,21 +64,21 @@ module _ {S : Type 0} (g : Ghosts S) (old mid new : Held S) (sql : List ℕ) (ro
   failed (Ok xs) plain h = tt
   failed (Err e) plain h = left_by_query sql row (state g old) (state g mid) e plain h
 
-  settled_by : (out : Result A Fault) → IfOk out (λ v. (read ≡ Ok v) × (new ≡ mid)) → (HasCleanDisk (state g new) → out ≡ Err Memory → Shows (state g mid) (state g new) (state g mid).now (state g mid).now false)
-      → HasCleanDisk (state g new) → IsSettled (state g old) → OnOk rows (IsUnchanged (state g old) (state g mid)) → LeavesAsWas (state g old) (state g mid) → is_storage out ≡ false → StaysSettled (state g old) (state g new)
-  settled_by (Ok v) told memory clean is same left unspent =
-      subst (λ (h : Held S). StaysSettled (state g old) (state g h)) (sym told.1) (stays_read (state g old) (state g mid) is (were_shown (λ (a : A). ⊤) rows read v told.0 it.shown same))
-  settled_by (Err f) told memory clean is same left unspent =
+  settled_by : {l : Layout} → (out : Result A Fault) → IfOk out (λ v. (read ≡ Ok v) × (new ≡ mid)) → (HasCleanDisk (state g new) → out ≡ Err Memory → Shows (state g mid) (state g new) (state g mid).now (state g mid).now false)
+      → HasCleanDisk (state g new) → IsSettled l (state g old) → OnOk rows (IsUnchanged (state g old) (state g mid)) → LeavesAsWas (state g old) (state g mid) → is_storage out ≡ false → StaysSettled l (state g old) (state g new)
+  settled_by {l} (Ok v) told memory clean is same left unspent =
+      subst (λ (h : Held S). StaysSettled l (state g old) (state g h)) (sym told.1) (stays_read (state g old) (state g mid) is (were_shown (λ (a : A). ⊤) rows read v told.0 it.shown same))
+  settled_by {l} (Err f) told memory clean is same left unspent =
       stays_failed (state g old) (state g mid) (state g new) is left (memory clean (ap Err (is_memory A f unspent)))
 
-  settled : (IsSettled (state g old) → IsPlain (understood (state g old).now.schema sql)) → Stays g old new r
-  settled plain clean is unspent =
+  settled : {l : Layout} → (IsSettled l (state g old) → IsPlain (understood (state g old).now.schema sql)) → Stays g l old new r
+  settled {l} plain clean is unspent =
       let same = leaves_all sql row (state g old) (state g mid) rows (plain is) (ok (late clean)) in
       settled_by r checks.told (λ late e. (checks.memory late e).1) clean is same (left_as_was (state g old) (state g mid) rows same (failed rows (plain is) (err (late clean)))) unspent
 
   -- whatever came of it, nothing changed
-  pub reads_kept : CrashLaw g → Survives (state g old) (state g mid) (CommitsShowing sql row (state g old)) → (IsSettled (state g old) → IsPlain (understood (state g old).now.schema sql)) → Keeps g old new
-  reads_kept law survives plain clean is =
+  pub reads_kept : {l : Layout} → CrashLaw g → Survives (state g old) (state g mid) (CommitsShowing sql row (state g old)) → (IsSettled l (state g old) → IsPlain (understood (state g old).now.schema sql)) → Keeps g l old new
+  reads_kept {l} law survives plain clean is =
       let same = leaves_all sql row (state g old) (state g mid) rows (plain is) (ok (late clean)) in
       let left = left_as_was (state g old) (state g mid) rows same (failed rows (plain is) (err (late clean))) in
       let quiet = query_survives sql row (state g old) (state g mid) (λ early. plain is) survives in
@@ -87,11 +88,11 @@ module _ {S : Type 0} (g : Ghosts S) (old mid new : Held S) (sql : List ℕ) (ro
   lasts C survives = survives_all (state g old) (state g mid) (state g new) _ _ survives checks.survives
 
   -- the value is this of the tables, since the rows that are shown are that of them
-  pub reads : (C : Trees → Type 0) → Survives (state g old) (state g mid) C → (IsSettled (state g old) → IsPlain (understood (state g old).now.schema sql))
+  pub reads : {l : Layout} → (C : Trees → Type 0) → Survives (state g old) (state g mid) C → (IsSettled l (state g old) → IsPlain (understood (state g old).now.schema sql))
       → (params : Row) → row ≡ params → (T : A → Type 0) (Q : Vec Row Global → Type 0)
-      → (HoldsTables (state g old).now → IfOk rows (λ xs. Shown sql params (state g old) (state g mid) xs.items) → IfOk rows Q)
-      → ((xs : Vec Row Global) (v : A) → Q xs → P xs.items v → T v) → (HasCleanDisk (state g new) → IsSettled (state g old) → IfOk r T) × Stays g old new r × Lasts g old new
-  reads C survives plain params are T Q shows then = (
+      → (HoldsTables l (state g old).now → IfOk rows (λ xs. Shown sql params (state g old) (state g mid) xs.items) → IfOk rows Q)
+      → ((xs : Vec Row Global) (v : A) → Q xs → P xs.items v → T v) → (HasCleanDisk (state g new) → IsSettled l (state g old) → IfOk r T) × Stays g l old new r × Lasts g old new
+  reads {l} C survives plain params are T Q shows then = (
     λ clean is.
         value_told T Q P then (λ _. new ≡ mid) rows read r it checks.told
         (shows is.holds (subst (λ p. IfOk rows (λ xs. Shown sql p (state g old) (state g mid) xs.items)) are (ok (late clean)))),

@@ -27,6 +27,7 @@ use Rattle.store_schema.specs.Layout.{equals, tree_of}
 use Rattle.store_schema.proofs.Lists.{bytes_eq-sym}
 use Rattle.store_schema.proofs.Pages.{out_of}
 use Rattle.store_schema.proofs.Selects.{Answer, chosen, stored_here, means_command}
+use Rattle.store_contents.specs.Layouts.{Layout}
 use Rattle.store_statements.specs.Keys.{of_first, same_first}
 use Rattle.store_statements.specs.Tables.{IsRepoRow, AreRows}
 use Rattle.store_schema.specs.Ordered.{ordered_from}
@@ -38,9 +39,9 @@ use Rattle.store_statements.proofs.Selected.{finds}
 use Rattle.store_statements.proofs.SelectedRows.{length_mapped}
 use Rattle.store_statements.proofs.Sorted.{ordered, sort_same}
 
-pub shows_repo : (name : List ℕ) (old new : State) (r : Answer) → HoldsTables old.now → IfOk r (λ rows. Shown repo_find (Text name ∷ []) old new rows.items)
-    → IfOk r (λ rows. rows.items ≡ map (λ r. column r 2 ∷ column r 3 ∷ []) (option_to_list (find (of_first name) (held old).repos)))
-shows_repo name old new r h shown = finds repos_table IsRepoRow same_first repo_find _ (equals 1 0 ∷ []) _ (Text name ∷ []) (of_first name) old new r
+pub shows_repo : {l : Layout} → (name : List ℕ) (old new : State) (r : Answer) → HoldsTables l old.now → IfOk r (λ rows. Shown repo_find (Text name ∷ []) old new rows.items)
+    → IfOk r (λ rows. rows.items ≡ map (λ r. column r 2 ∷ column r 3 ∷ []) (option_to_list (find (of_first name) (held l old).repos)))
+shows_repo {l} name old new r h shown = finds repos_table IsRepoRow same_first repo_find _ (equals 1 0 ∷ []) _ (Text name ∷ []) (of_first name) old new r
     h.known.repo_texts.find h.known.repos.stored h.tables.repos (name_test name []) (first_parts name) shown
 
 -- ---- in the order of names
@@ -74,19 +75,19 @@ in_order tree table some rows are e sorted =
     ∙ ap (λ xs. map (λ r. column r 1 ∷ []) (sort_by (λ a b. output_cmp (of_list tree) (out_of (of_list tree) [] a) (out_of (of_list tree) [] b)) xs)) e
     ∙ ap (map (λ r. column r 1 ∷ [])) (sort_same IsRepoRow _ by_name (names_compared tree) table are.types)
 
-listed : (old new : State) (rows : List Row) → HoldsTables old.now → Shown repo_list [] old new rows → rows ≡ map (λ r. column r 1 ∷ []) (sort_by by_name (held old).repos)
-listed old new rows h ran =
+listed : {l : Layout} → (old new : State) (rows : List Row) → HoldsTables l old.now → Shown repo_list [] old new rows → rows ≡ map (λ r. column r 1 ∷ []) (sort_by by_name (held l old).repos)
+listed {l} old new rows h ran =
     let tree = tree_of old.now.schema repos_table in
     let means = h.known.repo_texts.list in
     let read = reads_as repo_list [] old new old.now.schema refl _ (means_command old.now.schema repo_list _ means) means.plain means.unlisted rows ran in
-    in_order tree (held old).repos _ rows h.tables.repos
-    (ap (chosen [] []) (stored_here tree old.now.trees h.known.repos.stored) ∙ filter_all _ (held old).repos (all_of _ (λ r. refl) (held old).repos))
+    in_order tree (held l old).repos _ rows h.tables.repos
+    (ap (chosen [] []) (stored_here tree old.now.trees h.known.repos.stored) ∙ filter_all _ (held l old).repos (all_of _ (λ r. refl) (held l old).repos))
     (λ apart. ordered tree 1 _ _ (overlay old.now.trees []) [] rows apart (read.answer Null))
 
-pub shows_names : (old new : State) (r : Answer) → HoldsTables old.now → IfOk r (λ rows. Shown repo_list [] old new rows.items)
-    → IfOk r (λ rows. rows.items ≡ map (λ r. column r 1 ∷ []) (sort_by by_name (held old).repos))
-shows_names old new (Err e) h ran = tt
-shows_names old new (Ok rows) h ran = listed old new rows.items h ran
+pub shows_names : {l : Layout} → (old new : State) (r : Answer) → HoldsTables l old.now → IfOk r (λ rows. Shown repo_list [] old new rows.items)
+    → IfOk r (λ rows. rows.items ≡ map (λ r. column r 1 ∷ []) (sort_by by_name (held l old).repos))
+shows_names {l} old new (Err e) h ran = tt
+shows_names {l} old new (Ok rows) h ran = listed old new rows.items h ran
 
 -- as many as there are repositories
 pub as_many_names : (repos rows : List Row) → rows ≡ map (λ r. column r 1 ∷ []) (sort_by by_name repos) → length rows ≡ length repos

@@ -16,6 +16,7 @@ use Rattle.store_schema.specs.Layout.{placed, equals}
 use Rattle.store_schema.proofs.Lists.{bytes_eq-sym, bytes_eq_true, none_found}
 use Rattle.store_schema.proofs.Selects.{is_text, one_test}
 use Rattle.store_schema.proofs.Writes.{passes, either}
+use Rattle.store_contents.specs.Layouts.{Layout}
 use Rattle.store_statements.specs.Keys.{of_first, same_first}
 use Rattle.store_statements.specs.Tables.{Tables, AreTables, AreRows, IsRepoRow}
 use Rattle.store_statements.specs.Changes.{with_quota, with_last, repo_columns, Comes}
@@ -46,9 +47,9 @@ cast_come : (schema : Schema) (name : List ℕ) (quota : ℕ) → cast_row (plac
 unfolding unary
 cast_come schema name quota = rw (either, either, either)
 
-came : (name : List ℕ) (quota : ℕ) (old new : State) (n : ℕ) → HoldsTables old.now → find (of_first name) (held old).repos ≡ None → Executes repo_add (Text name ∷ Int (pos quota) ∷ []) old new (Ok n)
-    → Comes (held old).repos (held new).repos (repo_columns name quota) × (held new ≡ record (held old) { repos = (held new).repos }) × HoldsTables new.now
-came name quota old new n h fresh ran = statements.comes repos_table IsRepoRow same_first (λ t rows. record t { repos = rows }) (λ schema k. k.repos) (λ a b k keeps rows e. only_repos a b k keeps rows e) (λ a b k keeps is. contents_beside_repos a b k keeps is) (λ db t. t.repos) put_are
+came : {l : Layout} → (name : List ℕ) (quota : ℕ) (old new : State) (n : ℕ) → HoldsTables l old.now → find (of_first name) (held l old).repos ≡ None → Executes repo_add (Text name ∷ Int (pos quota) ∷ []) old new (Ok n)
+    → Comes (held l old).repos (held l new).repos (repo_columns name quota) × (held l new ≡ record (held l old) { repos = (held l new).repos }) × HoldsTables l new.now
+came {l} name quota old new n h fresh ran = statements.comes repos_table IsRepoRow same_first (λ t rows. record t { repos = rows }) (λ schema k. k.repos) (λ a b k keeps rows e. only_repos a b k keeps rows e) (λ a b k keeps is. contents_beside_repos a b k keeps is) (λ db t. t.repos) put_are
     repo_add _ 4 (Text name ∷ Int (pos quota) ∷ []) (repo_columns name quota) old new n h h.known.repo_texts.add refl refl refl (cast_come old.now.schema name quota)
     (λ id. record { name = refl; quota = refl; last = refl }) first_turned (λ id. none_found (of_first name) _ fresh) ran
 
@@ -64,33 +65,33 @@ cast_quota schema quota r it id = rw (id, it.name, it.last) (cast_set schema _ _
 cast_last : (schema : Schema) (last : ℕ) (r : Row) → IsRepoRow r → rowid r ≡ Int (id_in (rowid r)) → cast_row (placed schema repos_table) (with_last last r) ≡ with_last last r
 cast_last schema last r it id = rw (id, it.name, it.quota) (cast_set schema _ _ _ last)
 
-quota_set : (name : List ℕ) (quota : ℕ) (old new : State) (n : ℕ) → HoldsTables old.now → Executes repo_set_quota (Text name ∷ Int (pos quota) ∷ []) old new (Ok n)
-    → (n ≡ length (filter (of_first name) (held old).repos)) × (held new ≡ repos_changed (of_first name) (with_quota quota) (held old)) × HoldsTables new.now
-quota_set name quota old new n h ran = statements.changes repos_table IsRepoRow same_first (λ t rows. record t { repos = rows }) (λ schema k. k.repos) (λ a b k keeps rows e. only_repos a b k keeps rows e) (λ a b k keeps is. contents_beside_repos a b k keeps is) (λ db t. t.repos) put_are
+quota_set : {l : Layout} → (name : List ℕ) (quota : ℕ) (old new : State) (n : ℕ) → HoldsTables l old.now → Executes repo_set_quota (Text name ∷ Int (pos quota) ∷ []) old new (Ok n)
+    → (n ≡ length (filter (of_first name) (held l old).repos)) × (held l new ≡ repos_changed (of_first name) (with_quota quota) (held l old)) × HoldsTables l new.now
+quota_set {l} name quota old new n h ran = statements.changes repos_table IsRepoRow same_first (λ t rows. record t { repos = rows }) (λ schema k. k.repos) (λ a b k keeps rows e. only_repos a b k keeps rows e) (λ a b k keeps is. contents_beside_repos a b k keeps is) (λ db t. t.repos) put_are
     repo_set_quota (equals 1 0 ∷ []) _ (Text name ∷ Int (pos quota) ∷ []) (of_first name) (with_quota quota) old new n h h.known.repo_texts.set_quota (name_test name (Int (pos quota) ∷ []))
     (first_parts name) (λ r. refl) (λ r. refl) (cast_quota old.now.schema quota)
     (λ r it. record { name = it.name; quota = refl; last = it.last }) (λ a r. refl) (λ a r. refl) ran
 
-last_set : (name : List ℕ) (last : ℕ) (old new : State) (n : ℕ) → HoldsTables old.now → Executes repo_set_last (Text name ∷ Int (pos last) ∷ []) old new (Ok n)
-    → (n ≡ length (filter (of_first name) (held old).repos)) × (held new ≡ repos_changed (of_first name) (with_last last) (held old)) × HoldsTables new.now
-last_set name last old new n h ran = statements.changes repos_table IsRepoRow same_first (λ t rows. record t { repos = rows }) (λ schema k. k.repos) (λ a b k keeps rows e. only_repos a b k keeps rows e) (λ a b k keeps is. contents_beside_repos a b k keeps is) (λ db t. t.repos) put_are
+last_set : {l : Layout} → (name : List ℕ) (last : ℕ) (old new : State) (n : ℕ) → HoldsTables l old.now → Executes repo_set_last (Text name ∷ Int (pos last) ∷ []) old new (Ok n)
+    → (n ≡ length (filter (of_first name) (held l old).repos)) × (held l new ≡ repos_changed (of_first name) (with_last last) (held l old)) × HoldsTables l new.now
+last_set {l} name last old new n h ran = statements.changes repos_table IsRepoRow same_first (λ t rows. record t { repos = rows }) (λ schema k. k.repos) (λ a b k keeps rows e. only_repos a b k keeps rows e) (λ a b k keeps is. contents_beside_repos a b k keeps is) (λ db t. t.repos) put_are
     repo_set_last (equals 1 0 ∷ []) _ (Text name ∷ Int (pos last) ∷ []) (of_first name) (with_last last) old new n h h.known.repo_texts.set_last (name_test name (Int (pos last) ∷ []))
     (first_parts name) (λ r. refl) (λ r. refl) (cast_last old.now.schema last)
     (λ r it. record { name = it.name; quota = it.quota; last = refl }) (λ a r. refl) (λ a r. refl) ran
 
 -- ---- the same of a call's result, inside a transaction
 
-pub added_by : (name : List ℕ) (quota : ℕ) (old new : State) (r : Result ℕ Error) → HoldsTables old.now → find (of_first name) (held old).repos ≡ None → ExecutesInside 0 repo_add (Text name ∷ Int (pos quota) ∷ []) old new r
-    → OnOk r (RepoComes old new (repo_columns name quota))
-added_by name quota old new (Err e) h fresh ran = tt
-added_by name quota old new (Ok n) h fresh ran = let it = came name quota old new n h fresh ran.0 in record { ready = record { inside = ran.1.mode; holds = it.2 }; comes = it.0; others = it.1 }
+pub added_by : {l : Layout} → (name : List ℕ) (quota : ℕ) (old new : State) (r : Result ℕ Error) → HoldsTables l old.now → find (of_first name) (held l old).repos ≡ None → ExecutesInside 0 repo_add (Text name ∷ Int (pos quota) ∷ []) old new r
+    → OnOk r (RepoComes l old new (repo_columns name quota))
+added_by {l} name quota old new (Err e) h fresh ran = tt
+added_by {l} name quota old new (Ok n) h fresh ran = let it = came name quota old new n h fresh ran.0 in record { ready = record { inside = ran.1.mode; holds = it.2 }; comes = it.0; others = it.1 }
 
-pub quota_set_by : (name : List ℕ) (quota : ℕ) (old new : State) (r : Result ℕ Error) → HoldsTables old.now → ExecutesInside 0 repo_set_quota (Text name ∷ Int (pos quota) ∷ []) old new r
-    → OnOk r (Becomes new (repos_changed (of_first name) (with_quota quota) (held old))) × IfOk r (λ n. n ≡ length (filter (of_first name) (held old).repos))
-quota_set_by name quota old new (Err e) h ran = (tt, tt)
-quota_set_by name quota old new (Ok n) h ran = let it = quota_set name quota old new n h ran.0 in ((record { inside = ran.1.mode; holds = it.2 }, it.1), it.0)
+pub quota_set_by : {l : Layout} → (name : List ℕ) (quota : ℕ) (old new : State) (r : Result ℕ Error) → HoldsTables l old.now → ExecutesInside 0 repo_set_quota (Text name ∷ Int (pos quota) ∷ []) old new r
+    → OnOk r (Becomes l new (repos_changed (of_first name) (with_quota quota) (held l old))) × IfOk r (λ n. n ≡ length (filter (of_first name) (held l old).repos))
+quota_set_by {l} name quota old new (Err e) h ran = (tt, tt)
+quota_set_by {l} name quota old new (Ok n) h ran = let it = quota_set name quota old new n h ran.0 in ((record { inside = ran.1.mode; holds = it.2 }, it.1), it.0)
 
-pub last_set_by : (name : List ℕ) (last : ℕ) (old new : State) (r : Result ℕ Error) → HoldsTables old.now → ExecutesInside 0 repo_set_last (Text name ∷ Int (pos last) ∷ []) old new r
-    → OnOk r (Becomes new (repos_changed (of_first name) (with_last last) (held old))) × IfOk r (λ n. n ≡ length (filter (of_first name) (held old).repos))
-last_set_by name last old new (Err e) h ran = (tt, tt)
-last_set_by name last old new (Ok n) h ran = let it = last_set name last old new n h ran.0 in ((record { inside = ran.1.mode; holds = it.2 }, it.1), it.0)
+pub last_set_by : {l : Layout} → (name : List ℕ) (last : ℕ) (old new : State) (r : Result ℕ Error) → HoldsTables l old.now → ExecutesInside 0 repo_set_last (Text name ∷ Int (pos last) ∷ []) old new r
+    → OnOk r (Becomes l new (repos_changed (of_first name) (with_last last) (held l old))) × IfOk r (λ n. n ≡ length (filter (of_first name) (held l old).repos))
+last_set_by {l} name last old new (Err e) h ran = (tt, tt)
+last_set_by {l} name last old new (Ok n) h ran = let it = last_set name last old new n h ran.0 in ((record { inside = ran.1.mode; holds = it.2 }, it.1), it.0)

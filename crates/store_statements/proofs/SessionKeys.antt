@@ -1,5 +1,5 @@
 -- Keys of a text and a number.
-use Rattle.std.proofs.Common.{◌≡◌, ◌∙◌, ℕ, pos, List, Bool, true, false, sym, ap, refl}
+use Rattle.std.proofs.Common.{◌≡◌, ◌∙◌, ℕ, pos, List, true, false, sym, ap}
 use Rattle.std.specs.Prelude.{bytes_eq, ◌&&◌, ◌==◌}
 use Rattle.std.specs.Ordering.{int_eq}
 use Rattle.std.proofs.lemmas.Bool.{eqb-true, eq-eqb}
@@ -14,16 +14,9 @@ use Rattle.store_schema.specs.Rows.{bytes_at, natural_at}
 use Rattle.store_schema.proofs.Lists.{bytes_eq-sym, bytes_eq_true}
 use Rattle.store_schema.proofs.Selects.{is_int}
 use Rattle.store_schema.proofs.Ids.{int_eq_is, int_eq_itself, rowid_test}
+use Rattle.store_contents.proofs.Numbers.{number_turned, same_truth}
 use Rattle.store_statements.specs.Keys.{of_session, same_session, same_start}
 use Rattle.store_statements.proofs.Keys.{both_true}
-
-same_truth : (p q : Bool) → (p ≡ true → q ≡ true) → (q ≡ true → p ≡ true) → p ≡ q
-same_truth true q f g = sym (f refl)
-same_truth false true f g = g refl
-same_truth false false f g = refl
-
-pub number_turned : (m n : ℕ) → (m == n) ≡ (n == m)
-number_turned m n = same_truth _ _ (λ e. eq-eqb n m (sym (eqb-true m n e))) (λ e. eq-eqb m n (sym (eqb-true n m e)))
 
 pub int_eq_number : (m n : ℕ) → int_eq (pos m) (pos n) ≡ (m == n)
 int_eq_number m n = same_truth _ _ (λ t. eq-eqb m n (let same : pos m ≡ pos n = int_eq_is (pos m) (pos n) t in cc)) (λ t. ap (λ k. int_eq (pos k) (pos n)) (eqb-true m n t) ∙ int_eq_itself (pos n))

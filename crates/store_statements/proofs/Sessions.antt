@@ -43,13 +43,13 @@ upload_of : (t : Tables) (name : Text) (number size : ℕ) (o : Option Row) → 
 upload_of t name number size None e sized = absurd (true≢false (sym (ap is_some sized)))
 upload_of t name number size (Some r) e sized = (r, e, cc)
 
-pub appended : (t : Tables) (contents : ℤ → Option Text) (name : Text) (number size : ℕ) (bytes : Text) (id : ℤ) (pieces : List Row) → IsRegistry t → option_map (λ r. natural_at r 3) (find (of_session name number) t.uploads) ≡ Some size
+pub appended : (t : Tables) (contents : ℤ → Option Text) (places : List Row) (name : Text) (number size : ℕ) (bytes : Text) (id : ℤ) (pieces : List Row) → IsRegistry t → option_map (λ r. natural_at r 3) (find (of_session name number) t.uploads) ≡ Some size
     → 0 < length bytes → Grow t.contents contents → contents id ≡ Some bytes → Comes t.pieces pieces (piece_columns name number size (length bytes) id)
-    → let after : Tables = record t { contents = contents; pieces = pieces; uploads = changed (of_session name number) (with_size (size + length bytes)) t.uploads } in
+    → let after : Tables = record t { contents = contents; places = places; pieces = pieces; uploads = changed (of_session name number) (with_size (size + length bytes)) t.uploads } in
     (world_of after ≡ append (world_of t) name number bytes) × IsRegistry after
-appended t contents name number size bytes id pieces is sized more grow has c =
-    let grown = contents_grown t contents is grow in
-    let mid : Tables = record t { contents = contents } in
+appended t contents places name number size bytes id pieces is sized more grow has c =
+    let grown = contents_grown t contents places is grow in
+    let mid : Tables = record t { contents = contents; places = places } in
     let row = upload_of t name number size (find (of_session name number) t.uploads) refl sized in
     let there : has_session t.uploads name number ≡ true = ap is_some row.1 in
     let reach : Reach 0 (pieces_of t.pieces name number) size = subst (Reach 0 (pieces_of t.pieces name number)) row.2 (upload_reach t name number row.0 is row.1) in
@@ -102,13 +102,13 @@ updated_twice w name f g = go (repo_at w name) refl
 finish_parts : (t after : Tables) (name : Text) (number : ℕ) (digest bytes : Text) → world_of after ≡ update_repo (world_of t) name (without_session number) (repo_at (world_of t) name) → put_blob (world_of after) name digest bytes ≡ finish (world_of t) name number digest bytes
 finish_parts t after name number digest bytes e = ap (λ w. put_blob w name digest bytes) e ∙ updated_twice (world_of t) name (without_session number) (λ r. with_blob r digest bytes)
 
-pub finished_new : (t : Tables) (contents : ℤ → Option Text) (name : Text) (number : ℕ) (digest bytes : Text) (id : ℤ) (blobs : List Row) → IsRegistry t → is_repo t.repos name ≡ true → Grow t.contents contents → contents id ≡ Some bytes
+pub finished_new : (t : Tables) (contents : ℤ → Option Text) (places : List Row) (name : Text) (number : ℕ) (digest bytes : Text) (id : ℤ) (blobs : List Row) → IsRegistry t → is_repo t.repos name ≡ true → Grow t.contents contents → contents id ≡ Some bytes
     → find (has_key name digest) t.blobs ≡ None → Comes t.blobs blobs (blob_columns name digest (length bytes) id)
-    → let after : Tables = record t { contents = contents; blobs = blobs; pieces = without (of_session name number) t.pieces; uploads = without (of_session name number) t.uploads } in
+    → let after : Tables = record t { contents = contents; places = places; blobs = blobs; pieces = without (of_session name number) t.pieces; uploads = without (of_session name number) t.uploads } in
     (world_of after ≡ finish (world_of t) name number digest bytes) × IsRegistry after
-finished_new t contents name number digest bytes id blobs is there grow has fresh c =
-    let grown = contents_grown t contents is grow in
-    let mid : Tables = record t { contents = contents } in
+finished_new t contents places name number digest bytes id blobs is there grow has fresh c =
+    let grown = contents_grown t contents places is grow in
+    let mid : Tables = record t { contents = contents; places = places } in
     let closed = ended mid name number grown.1 in
     let put = blob_added (tables_ended mid name number) name digest bytes id blobs closed.1 there has fresh c in
     (put.0 ∙ finish_parts mid (tables_ended mid name number) name number digest bytes closed.0 ∙ ap (λ w. finish w name number digest bytes) grown.0, put.1)

@@ -24,7 +24,7 @@ use Rattle.store_schema.proofs.Ids.{rowid_is}
 use Rattle.store_schema.proofs.Lists.{only_one}
 use Rattle.store_schema.proofs.Writes.{passes, deletes, removes, Removes, inserts, adds_row, AddsRow, updates, keeps_others}
 use Rattle.store_schema.proofs.Updates.{sets, Sets}
-use Rattle.store_contents.specs.Contents.{HoldsContents}
+use Rattle.store_contents.specs.Layouts.{Layout, Holds}
 use Rattle.store_statements.specs.Tables.{Tables, AreTables, AreRows}
 use Rattle.store_statements.specs.Changes.{without, changed, Comes}
 use Rattle.store_statements.specs.Known.{KnowsRegistry}
@@ -32,21 +32,21 @@ use Rattle.store_statements.specs.Held.{tables_in, HoldsTables}
 use Rattle.store_statements.proofs.AreRows.{rows_without, rows_with, rows_changed}
 
 -- a table's place among the tables
-module _ (table : Table) (Is : Row → Type 0) (same : Row → Row → Bool) (put : Tables → List Row → Tables)
-    (stands : (schema : Schema) → KnowsRegistry schema → Stands schema table)
-    (only : (old new : Database) → KnowsRegistry old.schema → KeepsOthers table old new → (rows : List Row) → rows_of new table ≡ rows → tables_in new ≡ put (tables_in old) rows)
-    (beside : (old new : Database) → KnowsRegistry old.schema → KeepsOthers table old new → HoldsContents old → HoldsContents new)
-    (are : (db : Database) → AreTables (tables_in db) → AreRows Is same (rows_of db table))
+module _ {l : Layout} (table : Table) (Is : Row → Type 0) (same : Row → Row → Bool) (put : Tables → List Row → Tables)
+    (stands : (schema : Schema) → KnowsRegistry l schema → Stands schema table)
+    (only : (old new : Database) → KnowsRegistry l old.schema → KeepsOthers table old new → (rows : List Row) → rows_of new table ≡ rows → tables_in l new ≡ put (tables_in l old) rows)
+    (beside : (old new : Database) → KnowsRegistry l old.schema → KeepsOthers table old new → Holds l old → Holds l new)
+    (are : (db : Database) → AreTables (tables_in l db) → AreRows Is same (rows_of db table))
     (put_are : (t : Tables) (rows : List Row) → AreTables t → AreRows Is same rows → AreTables (put t rows)) where
-  after : (old new : Database) (rows : List Row) → HoldsTables old → KeepsOthers table old new → rows_of new table ≡ rows → AreRows Is same rows → (tables_in new ≡ put (tables_in old) rows) × HoldsTables new
+  after : (old new : Database) (rows : List Row) → HoldsTables l old → KeepsOthers table old new → rows_of new table ≡ rows → AreRows Is same rows → (tables_in l new ≡ put (tables_in l old) rows) × HoldsTables l new
   after old new rows h keeps e are_rows =
       let now = only old new h.known keeps rows e in
-      (now, record { known = subst KnowsRegistry (sym keeps.schema) h.known; contents = beside old new h.known keeps h.contents; tables = subst AreTables (sym now) (put_are (tables_in old) rows h.tables are_rows) })
+      (now, record { known = subst (KnowsRegistry l) (sym keeps.schema) h.known; contents = beside old new h.known keeps h.contents; tables = subst AreTables (sym now) (put_are (tables_in l old) rows h.tables are_rows) })
 
   -- rows that are gone
-  pub taken : (terms : List Term) (params : Row) (p : Row → Bool) (old new : State) → HoldsTables old.now → ((r : Row) → Is r → passes params terms r ≡ p r)
+  pub taken : (terms : List Term) (params : Row) (p : Row → Bool) (old new : State) → HoldsTables l old.now → ((r : Row) → Is r → passes params terms r ≡ p r)
       → Removes old.now.schema (placed old.now.schema table) (passes params terms) old new
-      → (tables_in new.now ≡ put (tables_in old.now) (without p (rows_of old.now table))) × HoldsTables new.now
+      → (tables_in l new.now ≡ put (tables_in l old.now) (without p (rows_of old.now table))) × HoldsTables l new.now
   taken terms params p old new h test it =
       let schema = old.now.schema in
       let rows = are old.now h.tables in
@@ -55,10 +55,10 @@ module _ (table : Table) (Is : Row → Type 0) (same : Row → Row → Bool) (pu
       (rows_without Is same p _ rows)
 
   -- a DELETE
-  pub takes : (text : List ℕ) (terms : List Term) (params : Row) (p : Row → Bool) (old new : State) (n : ℕ) → (h : HoldsTables old.now) → IsUnreferred old.now.schema table
+  pub takes : (text : List ℕ) (terms : List Term) (params : Row) (p : Row → Bool) (old new : State) (n : ℕ) → (h : HoldsTables l old.now) → IsUnreferred old.now.schema table
       → Means old.now.schema text (Delete (stands old.now.schema h.known).at (record { lets = []; body = select_from (tree_of old.now.schema table) terms (col 1 0 ∷ []) }))
       → ((r : Row) → Is r → passes params terms r ≡ p r) → Executes text params old new (Ok n)
-      → (tables_in new.now ≡ put (tables_in old.now) (without p (rows_of old.now table))) × HoldsTables new.now
+      → (tables_in l new.now ≡ put (tables_in l old.now) (without p (rows_of old.now table))) × HoldsTables l new.now
   takes text terms params p old new n h alone means test ran =
       let schema = old.now.schema in
       let at = stands schema h.known in
@@ -66,12 +66,12 @@ module _ (table : Table) (Is : Row → Type 0) (same : Row → Row → Bool) (pu
       taken terms params p old new h test (removes schema (placed schema table) terms params old new n rows.ids alone (deletes schema at.at (placed schema table) at.place at.stored text terms params old new refl n ran means))
 
   -- an INSERT of one row under a fresh key
-  pub comes : (text : List ℕ) (terms : List Term) (width : ℕ) (params columns : Row) (old new : State) (n : ℕ) → (h : HoldsTables old.now)
+  pub comes : (text : List ℕ) (terms : List Term) (width : ℕ) (params columns : Row) (old new : State) (n : ℕ) → (h : HoldsTables l old.now)
       → Means old.now.schema text (Insert (stands old.now.schema h.known).at (Values terms width)) → table.is_counted ≡ false → stamped (placed old.now.schema table) params ≡ params
       → value_rows params width (length terms / width) terms ≡ (Null ∷ columns) ∷ [] → cast_row (placed old.now.schema table) (Null ∷ columns) ≡ Null ∷ columns
       → ((id : ℤ) → Is (Int id ∷ columns)) → ((a b : Row) → same a b ≡ same b a) → ((id : ℤ) → AllByRecursion (λ r. same (Int id ∷ columns) r ≡ false) (rows_of old.now table))
       → Executes text params old new (Ok n)
-      → Comes (rows_of old.now table) (rows_of new.now table) columns × (tables_in new.now ≡ put (tables_in old.now) (rows_of new.now table)) × HoldsTables new.now
+      → Comes (rows_of old.now table) (rows_of new.now table) columns × (tables_in l new.now ≡ put (tables_in l old.now) (rows_of new.now table)) × HoldsTables l new.now
   comes text terms width params columns old new n h means uncounted bare values cast is turned fresh ran =
       let schema = old.now.schema in
       let at = stands schema h.known in
@@ -86,14 +86,14 @@ module _ (table : Table) (Is : Row → Type 0) (same : Row → Row → Bool) (pu
       (come, all.0, all.1)
 
   -- an UPDATE of the one row of a key
-  pub changes : (text : List ℕ) (terms project : List Term) (params : Row) (p : Row → Bool) (f : Row → Row) (old new : State) (n : ℕ) → (h : HoldsTables old.now)
+  pub changes : (text : List ℕ) (terms project : List Term) (params : Row) (p : Row → Bool) (f : Row → Row) (old new : State) (n : ℕ) → (h : HoldsTables l old.now)
       → Means old.now.schema text (Update (stands old.now.schema h.known).at (record { lets = []; body = select_from (tree_of old.now.schema table) terms project }))
       → ((r : Row) → Is r → passes params terms r ≡ p r) → ((a b : Row) → same a b ≡ false → p a ≡ true → p b ≡ false)
       → ((r : Row) → eval_all project (params ∷ r ∷ []) ≡ column r 0 ∷ f r) → ((r : Row) → rowid (f r) ≡ rowid r)
       → ((r : Row) → Is r → rowid r ≡ Int (id_in (rowid r)) → cast_row (placed old.now.schema table) (f r) ≡ f r)
       → ((r : Row) → Is r → Is (f r)) → ((a r : Row) → same (f a) r ≡ same a r) → ((a r : Row) → same a (f r) ≡ same a r)
       → Executes text params old new (Ok n)
-      → (n ≡ length (filter p (rows_of old.now table))) × (tables_in new.now ≡ put (tables_in old.now) (changed p f (rows_of old.now table))) × HoldsTables new.now
+      → (n ≡ length (filter p (rows_of old.now table))) × (tables_in l new.now ≡ put (tables_in l old.now) (changed p f (rows_of old.now table))) × HoldsTables l new.now
   changes text terms project params p f old new n h means test parts shows keeps casts is left right ran =
       let schema = old.now.schema in
       let at = stands schema h.known in

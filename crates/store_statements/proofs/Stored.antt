@@ -16,18 +16,18 @@ use Rattle.store_statements.proofs.ContentWorlds.{contents_grown}
 use Rattle.store_statements.proofs.BlobWorlds.{blob_added}
 use Rattle.store_statements.proofs.ManifestWorlds.{manifest_added}
 
-pub blob_stored : (t : Tables) (contents : ℤ → Option Text) (name digest bytes : Text) (id : ℤ) (rows : List Row) → IsRegistry t → is_repo t.repos name ≡ true → Grow t.contents contents → contents id ≡ Some bytes
+pub blob_stored : (t : Tables) (contents : ℤ → Option Text) (places : List Row) (name digest bytes : Text) (id : ℤ) (rows : List Row) → IsRegistry t → is_repo t.repos name ≡ true → Grow t.contents contents → contents id ≡ Some bytes
     → find (has_key name digest) t.blobs ≡ None → Comes t.blobs rows (blob_columns name digest (length bytes) id)
-    → let after : Tables = record t { contents = contents; blobs = rows } in (world_of after ≡ put_blob (world_of t) name digest bytes) × IsRegistry after
-blob_stored t contents name digest bytes id rows is there grow held fresh c =
-    let grown = contents_grown t contents is grow in
-    let added = blob_added (record t { contents = contents }) name digest bytes id rows grown.1 there held fresh c in
+    → let after : Tables = record t { contents = contents; places = places; blobs = rows } in (world_of after ≡ put_blob (world_of t) name digest bytes) × IsRegistry after
+blob_stored t contents places name digest bytes id rows is there grow held fresh c =
+    let grown = contents_grown t contents places is grow in
+    let added = blob_added (record t { contents = contents; places = places }) name digest bytes id rows grown.1 there held fresh c in
     (added.0 ∙ ap (λ w. put_blob w name digest bytes) grown.0, added.1)
 
-pub manifest_stored : (t : Tables) (contents : ℤ → Option Text) (name digest content : Text) (id : ℤ) (rows : List Row) → IsRegistry t → is_repo t.repos name ≡ true → Grow t.contents contents → contents id ≡ Some content
+pub manifest_stored : (t : Tables) (contents : ℤ → Option Text) (places : List Row) (name digest content : Text) (id : ℤ) (rows : List Row) → IsRegistry t → is_repo t.repos name ≡ true → Grow t.contents contents → contents id ≡ Some content
     → find (has_key name digest) t.manifests ≡ None → Comes t.manifests rows (manifest_columns name digest (length content) (kind_in content) (subject_or_none (manifest_in content)) id)
-    → let after : Tables = record t { contents = contents; manifests = rows } in (world_of after ≡ put_manifest (world_of t) name digest content None) × IsRegistry after
-manifest_stored t contents name digest content id rows is there grow held fresh c =
-    let grown = contents_grown t contents is grow in
-    let added = manifest_added (record t { contents = contents }) name digest content id rows grown.1 there held fresh c in
+    → let after : Tables = record t { contents = contents; places = places; manifests = rows } in (world_of after ≡ put_manifest (world_of t) name digest content None) × IsRegistry after
+manifest_stored t contents places name digest content id rows is there grow held fresh c =
+    let grown = contents_grown t contents places is grow in
+    let added = manifest_added (record t { contents = contents; places = places }) name digest content id rows grown.1 there held fresh c in
     (added.0 ∙ ap (λ w. put_manifest w name digest content None) grown.0, added.1)

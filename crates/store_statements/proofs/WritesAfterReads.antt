@@ -6,6 +6,7 @@ use Rattle.sqlite.specs.State.{State}
 use Rattle.oci_types.specs.declared.fault.Fault.{Fault}
 use Rattle.oci_types.specs.declared.fault.Fault.TheVariants.{Memory, Storage}
 use Rattle.registry_model.specs.World.{World}
+use Rattle.store_contents.specs.Layouts.{Layout}
 use Rattle.store_statements.specs.World.{world_of}
 use Rattle.store_statements.specs.Held.{StaysSettled, SettlesOn, is_storage, held, world_in, tables_in}
 
@@ -17,15 +18,15 @@ pub some_found : {A B : Type 0} (f : A → B) (o : Option A) (y : B) → Some y 
 some_found f None y e = absurd cc
 some_found f (Some x) y e = (x, refl, cc)
 
-pub same_held : (old mid : State) → StaysSettled old mid → held mid ≡ held old
-same_held old mid stays = ap tables_in stays.1
+pub same_held : {l : Layout} → (old mid : State) → StaysSettled l old mid → held l mid ≡ held l old
+same_held {l} old mid stays = ap (tables_in l) stays.1
 
-pub same_world : (a b : State) → StaysSettled a b → world_in b ≡ world_in a
-same_world a b s = ap (λ (db : Database). world_of (tables_in db)) s.1
+pub same_world : {l : Layout} → (a b : State) → StaysSettled l a b → world_in l b ≡ world_in l a
+same_world {l} a b s = ap (λ (db : Database). world_of (tables_in l db)) s.1
 
 -- it was there: nothing was written, and the world is what the write makes of it
-pub makes_same : (old mid : State) (w : World) → StaysSettled old mid → world_in old ≡ w → SettlesOn mid w
-makes_same old mid w stays e = (stays.0, ap (λ (db : Database). world_of (tables_in db)) stays.1 ∙ e)
+pub makes_same : {l : Layout} → (old mid : State) (w : World) → StaysSettled l old mid → world_in l old ≡ w → SettlesOn l mid w
+makes_same {l} old mid w stays e = (stays.0, ap (λ (db : Database). world_of (tables_in l db)) stays.1 ∙ e)
 
 -- want of memory does not spend the store
 pub memory_told : {A : Type 0} (B : Type 0) (f : Fault) → ◌≡◌ {A = Result A Fault} (Err f) (Err Memory) → is_storage {A = B} (Err f) ≡ false

@@ -1,7 +1,7 @@
 -- What a schema must be for this store's statements to mean what they say. The schema that a registry makes
 -- in an empty database is so by computation.
 use Rattle.std.specs.Prelude.{◌≡◌, ◌≢◌, ◌⊎◌, ◌==◌, ◌&&◌, ◌++◌, ℕ, Bool, true, false, not, if◌then◌else◌, List, ◌∷◌, [], Some}
-use Rattle.std.specs.List.{list_any}
+use Rattle.std.specs.List.{list_any, AllByRecursion}
 use Rattle.sqlite.specs.Order.{Row}
 use Rattle.sqlite.specs.Table.{Table}
 use Rattle.sqlite.specs.Schema.{Schema}
@@ -14,7 +14,7 @@ use Rattle.sqlite_schema.specs.Rules.{ParentKey, parent_key}
 use Rattle.sqlite_value.specs.Keys.{plain}
 use Rattle.store_schema.specs.Schema.{version_table, repos_table, grants_table, tags_table, contents_table, blob_links_table, manifest_links_table, uploads_table, pieces_table}
 use Rattle.store_schema.specs.Layout.{tree_of, Stands, IsUnreferred}
-use Rattle.store_contents.specs.Contents.{KnowsContents}
+use Rattle.store_contents.specs.Layouts.{Layout, Knows, further_trees, IsNone}
 use Rattle.store_statements.specs.RepoTexts.{KnowsRepoTexts}
 use Rattle.store_statements.specs.GrantTexts.{KnowsGrantTexts}
 use Rattle.store_statements.specs.TagTexts.{KnowsTagTexts}
@@ -77,8 +77,17 @@ KnowsChildren schema =
 abbrev pub IsStill : Schema → Type 0
 IsStill schema = (tree : ℕ) (x y : Row) → works schema Enforced 0 tree (x ∷ []) (y ∷ []) ≡ []
 
-pub record KnowsRegistry (schema : Schema) : Type 0 where
-  pub contents : KnowsContents schema
+-- a further table that a layout has: none of the nine, and none whose rows go with rows of others
+abbrev pub IsFurther : Schema → ℕ → Type 0
+IsFurther schema tree =
+    IsNone tree (trees_of schema)
+    × AllByRecursion
+    (λ (table : Table). is_beside (trees_of schema) table ≡ true → table.tree ≢ tree)
+    schema.tables
+
+pub record KnowsRegistry (l : Layout) (schema : Schema) : Type 0 where
+  pub contents : Knows l schema
+  pub further : AllByRecursion (IsFurther schema) (further_trees l schema)
   pub repos : Stands schema repos_table
   pub grants : Stands schema grants_table
   pub tags : Stands schema tags_table

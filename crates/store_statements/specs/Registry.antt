@@ -90,14 +90,17 @@ IsOpen uploads p = is_some (find (of_session (bytes_at p 1) (natural_at p 2)) up
 
 -- ---- the schema
 
--- one row says that the tables are of schema 2, and no other says anything
+-- one row says of which schema the tables are, and no other says anything
+abbrev pub IsOfSchema : ℕ → List Row → Type 0
+IsOfSchema number rows = map {B = Row} (λ r. column r 1 ∷ []) rows ≡ (Int (pos number) ∷ []) ∷ []
+
 abbrev pub IsOfSchemaTwo : List Row → Type 0
-IsOfSchemaTwo rows = map {B = Row} (λ r. column r 1 ∷ []) rows ≡ (Int (pos 2) ∷ []) ∷ []
+IsOfSchemaTwo = IsOfSchema 2
 
 -- ---- all of it
 
 pub record Agree (t : Tables) : Type 0 where
-  pub version : IsOfSchemaTwo t.version
+  pub version : IsOfSchema t.number t.version
   pub granted : HaveGranted t.repos t.grants
   pub tagged : HaveRepo t.repos t.tags
   pub blobs_repo : HaveRepo t.repos t.blobs

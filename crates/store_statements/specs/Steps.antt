@@ -9,6 +9,7 @@ use Rattle.store_statements.specs.Keys.{of_first, of_session, has_key}
 use Rattle.store_statements.specs.Tables.{Tables, IsEmptyBeside, new_tables}
 use Rattle.store_statements.specs.Registry.{IsOfSchemaTwo}
 use Rattle.store_statements.specs.Changes.{without, changed, Comes, with_last, with_size, upload_columns, blob_columns, piece_columns, Grow}
+use Rattle.store_contents.specs.Layouts.{Layout}
 use Rattle.store_statements.specs.Held.{IsReady, held}
 
 -- a tag of the repository names the digest, in column 3
@@ -22,10 +23,10 @@ abbrev pub tags_changed : (Row → Bool) → (Row → Row) → Tables → Tables
 tags_changed p f t = record t { tags = changed p f t.tags }
 
 -- one row came into the table, and the others stay
-pub record TagComes (old new : State) (columns : Row) : Type 0 where
-  pub ready : IsReady new
-  pub comes : Comes (held old).tags (held new).tags columns
-  pub others : held new ≡ record (held old) { tags = (held new).tags }
+pub record TagComes (l : Layout) (old new : State) (columns : Row) : Type 0 where
+  pub ready : IsReady l new
+  pub comes : Comes (held l old).tags (held l new).tags columns
+  pub others : held l new ≡ record (held l old) { tags = (held l new).tags }
 
 -- ---- repositories
 
@@ -35,10 +36,10 @@ repos_without p t = record t { repos = without p t.repos }
 abbrev pub repos_changed : (Row → Bool) → (Row → Row) → Tables → Tables
 repos_changed p f t = record t { repos = changed p f t.repos }
 
-pub record RepoComes (old new : State) (columns : Row) : Type 0 where
-  pub ready : IsReady new
-  pub comes : Comes (held old).repos (held new).repos columns
-  pub others : held new ≡ record (held old) { repos = (held new).repos }
+pub record RepoComes (l : Layout) (old new : State) (columns : Row) : Type 0 where
+  pub ready : IsReady l new
+  pub comes : Comes (held l old).repos (held l new).repos columns
+  pub others : held l new ≡ record (held l old) { repos = (held l new).repos }
 
 -- ---- grants
 
@@ -48,20 +49,20 @@ grants_without p t = record t { grants = without p t.grants }
 abbrev pub grants_changed : (Row → Bool) → (Row → Row) → Tables → Tables
 grants_changed p f t = record t { grants = changed p f t.grants }
 
-pub record GrantComes (old new : State) (columns : Row) : Type 0 where
-  pub ready : IsReady new
-  pub comes : Comes (held old).grants (held new).grants columns
-  pub others : held new ≡ record (held old) { grants = (held new).grants }
+pub record GrantComes (l : Layout) (old new : State) (columns : Row) : Type 0 where
+  pub ready : IsReady l new
+  pub comes : Comes (held l old).grants (held l new).grants columns
+  pub others : held l new ≡ record (held l old) { grants = (held l new).grants }
 
 -- ---- links to blobs
 
 abbrev pub blobs_without : (Row → Bool) → Tables → Tables
 blobs_without p t = record t { blobs = without p t.blobs }
 
-pub record BlobComes (old new : State) (columns : Row) : Type 0 where
-  pub ready : IsReady new
-  pub comes : Comes (held old).blobs (held new).blobs columns
-  pub others : held new ≡ record (held old) { blobs = (held new).blobs }
+pub record BlobComes (l : Layout) (old new : State) (columns : Row) : Type 0 where
+  pub ready : IsReady l new
+  pub comes : Comes (held l old).blobs (held l new).blobs columns
+  pub others : held l new ≡ record (held l old) { blobs = (held l new).blobs }
 
 -- ---- upload sessions
 
@@ -71,45 +72,45 @@ uploads_without p t = record t { uploads = without p t.uploads }
 abbrev pub uploads_changed : (Row → Bool) → (Row → Row) → Tables → Tables
 uploads_changed p f t = record t { uploads = changed p f t.uploads }
 
-pub record UploadComes (old new : State) (columns : Row) : Type 0 where
-  pub ready : IsReady new
-  pub comes : Comes (held old).uploads (held new).uploads columns
-  pub others : held new ≡ record (held old) { uploads = (held new).uploads }
+pub record UploadComes (l : Layout) (old new : State) (columns : Row) : Type 0 where
+  pub ready : IsReady l new
+  pub comes : Comes (held l old).uploads (held l new).uploads columns
+  pub others : held l new ≡ record (held l old) { uploads = (held l new).uploads }
 
 -- ---- the pieces of upload sessions
 
 abbrev pub pieces_without : (Row → Bool) → Tables → Tables
 pieces_without p t = record t { pieces = without p t.pieces }
 
-pub record PieceComes (old new : State) (columns : Row) : Type 0 where
-  pub ready : IsReady new
-  pub comes : Comes (held old).pieces (held new).pieces columns
-  pub others : held new ≡ record (held old) { pieces = (held new).pieces }
+pub record PieceComes (l : Layout) (old new : State) (columns : Row) : Type 0 where
+  pub ready : IsReady l new
+  pub comes : Comes (held l old).pieces (held l new).pieces columns
+  pub others : held l new ≡ record (held l old) { pieces = (held l new).pieces }
 
 -- ---- which schema it is
 
-pub record VersionComes (old new : State) : Type 0 where
-  pub ready : IsReady new
+pub record VersionComes (l : Layout) (old new : State) : Type 0 where
+  pub ready : IsReady l new
   pub id : ℤ
-  pub puts : PutsRow (held old).version (held new).version id (Int (pos 2) ∷ [])
-  pub others : held new ≡ record (held old) { version = (held new).version }
+  pub puts : PutsRow (held l old).version (held l new).version id (Int (pos 2) ∷ [])
+  pub others : held l new ≡ record (held l old) { version = (held l new).version }
 
 -- the tables were just made, beside further ones without rows
-pub record IsNew (s : State) : Type 0 where
-  pub ready : IsReady s
-  pub version : IsOfSchemaTwo (held s).version
-  pub beside : IsEmptyBeside (held s).beside
-  pub tables : held s ≡ new_tables (held s).version (held s).beside
+pub record IsNew (l : Layout) (s : State) : Type 0 where
+  pub ready : IsReady l s
+  pub version : IsOfSchemaTwo (held l s).version
+  pub beside : IsEmptyBeside (held l s).beside
+  pub tables : held l s ≡ new_tables (held l s).version (held l s).beside
 
 -- ---- links to manifests
 
 abbrev pub manifests_without : (Row → Bool) → Tables → Tables
 manifests_without p t = record t { manifests = without p t.manifests }
 
-pub record ManifestComes (old new : State) (columns : Row) : Type 0 where
-  pub ready : IsReady new
-  pub comes : Comes (held old).manifests (held new).manifests columns
-  pub others : held new ≡ record (held old) { manifests = (held new).manifests }
+pub record ManifestComes (l : Layout) (old new : State) (columns : Row) : Type 0 where
+  pub ready : IsReady l new
+  pub comes : Comes (held l old).manifests (held l new).manifests columns
+  pub others : held l new ≡ record (held l old) { manifests = (held l new).manifests }
 
 -- upload sessions with their pieces
 abbrev pub sessions_without : (Row → Bool) → Tables → Tables
@@ -129,21 +130,21 @@ pub record SessionOpened (old new : Tables) (name : Text) (number : ℕ) : Type 
 pub record ContentKept (old new : Tables) (id : ℤ) (bytes : Text) : Type 0 where
   pub grow : Grow old.contents new.contents
   pub there : new.contents id ≡ Some bytes
-  pub others : new ≡ record old { contents = new.contents }
+  pub others : new ≡ record old { contents = new.contents; places = new.places }
 
 pub record BlobStored (old new : Tables) (name digest bytes : Text) : Type 0 where
   pub id : ℤ
   pub grow : Grow old.contents new.contents
   pub there : new.contents id ≡ Some bytes
   pub comes : Comes old.blobs new.blobs (blob_columns name digest (length bytes) id)
-  pub others : new ≡ record old { contents = new.contents; blobs = new.blobs }
+  pub others : new ≡ record old { contents = new.contents; places = new.places; blobs = new.blobs }
 
 pub record PieceStored (old new : Tables) (name : Text) (number start : ℕ) (bytes : Text) : Type 0 where
   pub id : ℤ
   pub grow : Grow old.contents new.contents
   pub there : new.contents id ≡ Some bytes
   pub comes : Comes old.pieces new.pieces (piece_columns name number start (length bytes) id)
-  pub others : new ≡ record old { contents = new.contents; pieces = new.pieces }
+  pub others : new ≡ record old { contents = new.contents; places = new.places; pieces = new.pieces }
 
 -- the session's size is set, and a piece comes that begins where it ended
 abbrev pub Appended : Tables → Tables → Text → ℕ → ℕ → Text → Type 0

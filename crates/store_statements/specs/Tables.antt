@@ -21,13 +21,17 @@ pub record Beside : Type 0 where
 abbrev pub nothing_beside : Beside
 nothing_beside = record { schema = no_schema; rows = [] }
 
--- `contents` is the bytes by their ids; `blobs` and `manifests` are the links to them
+-- `number` is that of the schema. `contents` is the bytes by their ids; `blobs` and `manifests` are the links
+-- to them. `places` and `packs` are the rows that say where bytes stand in a pack, and in which.
 pub record Tables : Type 0 where
+  pub number : ℕ
   pub version : List Row
   pub repos : List Row
   pub grants : List Row
   pub tags : List Row
   pub contents : ℤ → Option Text
+  pub places : List Row
+  pub packs : List Row
   pub blobs : List Row
   pub manifests : List Row
   pub uploads : List Row
@@ -36,11 +40,14 @@ pub record Tables : Type 0 where
 
 abbrev pub no_tables : Tables
 no_tables = record {
+  number = 2;
   version = [];
   repos = [];
   grants = [];
   tags = [];
   contents = λ id. None;
+  places = [];
+  packs = [];
   blobs = [];
   manifests = [];
   uploads = [];

@@ -1,6 +1,8 @@
 //! A blob's bytes and the link to them.
-ghost use Rattle.std.specs.Prelude.{◌≡◌, ◌<◌, ◌^◌, true, length, find, None};
+ghost use Rattle.std.specs.Prelude.{◌≡◌, ◌<◌, ◌^◌, true, find, None};
 ghost use Rattle.oci_types.specs.Digest.{matches};
+ghost use Rattle.store_contents.specs.Layouts.{Layout};
+ghost use Rattle.store_places.specs.Source.{Fits, IfBytes, Suits, size_in, text_in};
 ghost use Rattle.store_statements.specs.Keys.{has_key};
 ghost use Rattle.store_statements.specs.Clauses.{KeepsInside, LastsUncommitted};
 ghost use Rattle.store_statements.specs.Steps.{BlobStored};
@@ -11,6 +13,7 @@ use crate::contents::keep_matching;
 use oci_types::Fault;
 use sqlite::{Alter, Transaction};
 use std::alloc::Global;
+use store_places::Source;
 
 /// Puts a blob in that the repository has not.
 pub fn store_blob<S: Alter>(
@@ -18,19 +21,22 @@ pub fn store_blob<S: Alter>(
     tx: &mut Transaction<'_, S>,
     repo: &str,
     digest: &str,
-    bytes: &[u8],
+    source: Source<'_>,
 ) -> Result<(), Fault>
-    requires matching { matches digest.now bytes.now ≡ true }
-    requires fits { length bytes.now < 2 ^ 63 }
-    ensures stored { StepsFrom S.Store tx.old.conn.now tx.new.conn.now result
+    requires right { Fits source }
+    requires fits { size_in source < 2 ^ 63 }
+    requires matching { IfBytes (λ bytes. matches digest.now bytes ≡ true) source }
+    ensures stored { (l : Layout) → Suits l source.entry
+        → StepsFrom S.Store l tx.old.conn.now tx.new.conn.now result
         (λ t. find (has_key repo.now digest.now) t.blobs ≡ None)
-        (λ t u. BlobStored t u repo.now digest.now bytes.now) }
-    ensures kept { KeepsInside S.Store tx.old.conn.now tx.new.conn.now }
+        (λ t u. BlobStored t u repo.now digest.now (text_in l source.entry)) }
+    ensures kept { (l : Layout) → Suits l source.entry
+        → KeepsInside S.Store l tx.old.conn.now tx.new.conn.now }
     ensures same_reference { tx.new.conn.ghost_name ≡ tx.old.conn.ghost_name }
     ensures survives { LastsUncommitted S.Store tx.old.conn.now tx.new.conn.now }
 {
-    match keep_matching(alloc, tx, digest, bytes) {
-        Ok(content) => add_blob_link(tx, repo, digest, bytes.len() as u64, content),
+    match keep_matching(alloc, tx, digest, source) {
+        Ok(content) => add_blob_link(tx, repo, digest, source.len() as u64, content),
         Err(fault) => Err(fault),
     }
 }

@@ -3,6 +3,7 @@ ghost use Rattle.std.specs.Prelude.{◌≡◌, ◌<◌, ◌^◌, map, filter, fi
 ghost use Rattle.std.specs.List.Sorted.{IsPermutation};
 ghost use Rattle.sqlite_keyed.specs.Lists.{sort_by};
 ghost use Rattle.store_schema.specs.Rows.{bytes_at, natural_at};
+ghost use Rattle.store_contents.specs.Layouts.{Layout};
 ghost use Rattle.store_statements.specs.Keys.{of_first, has_key};
 ghost use Rattle.store_statements.specs.Changes.{blob_columns};
 ghost use Rattle.store_statements.specs.Between.{Finds, Keeps, Stays};
@@ -32,9 +33,9 @@ pub fn take_blob_link<S: Alter>(
     repo: &str,
     digest: &str,
 ) -> Result<(), Fault>
-    ensures taken { Changes S.Store tx.old.conn.now tx.new.conn.now result
+    ensures taken { (l : Layout) → Changes S.Store l tx.old.conn.now tx.new.conn.now result
         (blobs_without (has_key repo.now digest.now)) }
-    ensures kept { KeepsInside S.Store tx.old.conn.now tx.new.conn.now }
+    ensures kept { (l : Layout) → KeepsInside S.Store l tx.old.conn.now tx.new.conn.now }
     ensures same_reference { tx.new.conn.ghost_name ≡ tx.old.conn.ghost_name }
     ensures survives { LastsUncommitted S.Store tx.old.conn.now tx.new.conn.now }
 {
@@ -46,9 +47,9 @@ pub fn take_blob_link<S: Alter>(
 
 /// Takes all links of the repository out.
 pub fn take_blob_links<S: Alter>(tx: &mut Transaction<'_, S>, repo: &str) -> Result<(), Fault>
-    ensures taken { Changes S.Store tx.old.conn.now tx.new.conn.now result
+    ensures taken { (l : Layout) → Changes S.Store l tx.old.conn.now tx.new.conn.now result
         (blobs_without (of_first repo.now)) }
-    ensures kept { KeepsInside S.Store tx.old.conn.now tx.new.conn.now }
+    ensures kept { (l : Layout) → KeepsInside S.Store l tx.old.conn.now tx.new.conn.now }
     ensures same_reference { tx.new.conn.ghost_name ≡ tx.old.conn.ghost_name }
     ensures survives { LastsUncommitted S.Store tx.old.conn.now tx.new.conn.now }
 {
@@ -67,10 +68,10 @@ pub fn add_blob_link<S: Alter>(
     content: ContentId,
 ) -> Result<(), Fault>
     requires fits { size < 2 ^ 63 }
-    ensures added { Adds S.Store tx.old.conn.now tx.new.conn.now result
+    ensures added { (l : Layout) → Adds S.Store l tx.old.conn.now tx.new.conn.now result
         (λ t. find (has_key repo.now digest.now) t.blobs ≡ None) BlobComes
         (blob_columns repo.now digest.now size content.id) }
-    ensures kept { KeepsInside S.Store tx.old.conn.now tx.new.conn.now }
+    ensures kept { (l : Layout) → KeepsInside S.Store l tx.old.conn.now tx.new.conn.now }
     ensures same_reference { tx.new.conn.ghost_name ≡ tx.old.conn.ghost_name }
     ensures survives { LastsUncommitted S.Store tx.old.conn.now tx.new.conn.now }
 {
@@ -99,10 +100,10 @@ pub fn find_blob_link<S: Alter>(
     repo: &str,
     digest: &str,
 ) -> Result<Option<BlobLink>, Fault>
-    ensures found { Finds S.Store conn.old conn.new result
+    ensures found { (l : Layout) → Finds S.Store l conn.old conn.new result
         (λ t o. o ≡ option_map blob_link (find (has_key repo.now digest.now) t.blobs)) }
-    ensures settled { Stays S.Store conn.old conn.new result }
-    ensures kept { Keeps S.Store conn.old conn.new }
+    ensures settled { (l : Layout) → Stays S.Store l conn.old conn.new result }
+    ensures kept { (l : Layout) → Keeps S.Store l conn.old conn.new }
     ensures survives { Lasts S.Store conn.old conn.new }
 {
     let shown = conn.query_all(
@@ -119,10 +120,10 @@ pub fn blob_sizes<S: Alter>(
     conn: &mut Connection<S>,
     repo: &str,
 ) -> Result<Vec<u64>, Fault>
-    ensures found { Finds S.Store conn.old conn.new result
+    ensures found { (l : Layout) → Finds S.Store l conn.old conn.new result
         (λ t sizes. IsPermutation (map (λ r. natural_at r 3) (filter (of_first repo.now) t.blobs))
         sizes.items) }
-    ensures settled { Stays S.Store conn.old conn.new result }
+    ensures settled { (l : Layout) → Stays S.Store l conn.old conn.new result }
     ensures survives { Lasts S.Store conn.old conn.new }
 {
     let shown = conn.query_all(
@@ -139,10 +140,10 @@ pub fn list_blob_digests<S: Alter>(
     conn: &mut Connection<S>,
     repo: &str,
 ) -> Result<Vec<Digest>, Fault>
-    ensures found { Finds S.Store conn.old conn.new result
+    ensures found { (l : Layout) → Finds S.Store l conn.old conn.new result
         (λ t digests. digests.items ≡ map (λ r. bytes_at r 2)
         (sort_by by_second (filter (of_first repo.now) t.blobs))) }
-    ensures settled { Stays S.Store conn.old conn.new result }
+    ensures settled { (l : Layout) → Stays S.Store l conn.old conn.new result }
     ensures survives { Lasts S.Store conn.old conn.new }
 {
     let shown = conn.query_all(
@@ -158,10 +159,10 @@ pub fn blob_contents<S: Alter>(
     alloc: Global,
     tx: &mut Transaction<'_, S>,
 ) -> Result<Vec<ContentId>, Fault>
-    ensures found { FindsInside S.Store tx.old.conn.now tx.new.conn.now result
+    ensures found { (l : Layout) → FindsInside S.Store l tx.old.conn.now tx.new.conn.now result
         (λ t ids. IsPermutation (map (content_named 4) t.blobs) ids.items) }
-    ensures same { ChangesNothingInside S.Store tx.old.conn.now tx.new.conn.now result }
-    ensures kept { KeepsInside S.Store tx.old.conn.now tx.new.conn.now }
+    ensures same { (l : Layout) → ChangesNothingInside S.Store l tx.old.conn.now tx.new.conn.now result }
+    ensures kept { (l : Layout) → KeepsInside S.Store l tx.old.conn.now tx.new.conn.now }
     ensures same_reference { tx.new.conn.ghost_name ≡ tx.old.conn.ghost_name }
     ensures survives { LastsUncommitted S.Store tx.old.conn.now tx.new.conn.now }
 {

@@ -1,6 +1,7 @@
 //! All grants, in the order of their repositories.
 ghost use Rattle.std.specs.Prelude.{◌≡◌, map};
 ghost use Rattle.sqlite_keyed.specs.Lists.{sort_by};
+ghost use Rattle.store_contents.specs.Layouts.{Layout};
 ghost use Rattle.store_statements.specs.Between.{Finds, Stays};
 ghost use Rattle.store_statements.specs.Clauses.{Lasts};
 ghost use Rattle.store_statements.specs.Shown.{by_repo_and_token, grant_row, grant_shown};
@@ -31,9 +32,9 @@ impl FromRow for Grant {
 
 /// Each grant, in byte order of the repositories, and on each of the tokens.
 pub fn list_grants<S: Alter>(alloc: Global, conn: &mut Connection<S>) -> Result<Vec<Grant>, Fault>
-    ensures found { Finds S.Store conn.old conn.new result
+    ensures found { (l : Layout) → Finds S.Store l conn.old conn.new result
         (λ t grants. grants.items ≡ map grant_row (sort_by by_repo_and_token t.grants)) }
-    ensures settled { Stays S.Store conn.old conn.new result }
+    ensures settled { (l : Layout) → Stays S.Store l conn.old conn.new result }
     ensures survives { Lasts S.Store conn.old conn.new }
 {
     let shown = conn.query_all(

@@ -3,6 +3,7 @@ ghost use Rattle.std.specs.Prelude.{◌≡◌, ◌∷◌, [], pos, map, nat_lt, 
 ghost use Rattle.sqlite.specs.Order.{column};
 ghost use Rattle.sqlite_keyed.specs.Lists.{sort_by};
 ghost use Rattle.store_schema.specs.Rows.{natural_at};
+ghost use Rattle.store_contents.specs.Layouts.{Layout};
 ghost use Rattle.store_statements.specs.Keys.{has_key, of_first, of_second};
 ghost use Rattle.store_statements.specs.Tables.{level_number, level_of};
 ghost use Rattle.store_statements.specs.Changes.{with_level, grant_columns};
@@ -36,9 +37,9 @@ pub fn take_grant<S: Alter>(
     token: &str,
     repo: &str,
 ) -> Result<(), Fault>
-    ensures taken { Changes S.Store tx.old.conn.now tx.new.conn.now result
+    ensures taken { (l : Layout) → Changes S.Store l tx.old.conn.now tx.new.conn.now result
         (grants_without (has_key token.now repo.now)) }
-    ensures kept { KeepsInside S.Store tx.old.conn.now tx.new.conn.now }
+    ensures kept { (l : Layout) → KeepsInside S.Store l tx.old.conn.now tx.new.conn.now }
     ensures same_reference { tx.new.conn.ghost_name ≡ tx.old.conn.ghost_name }
     ensures survives { LastsUncommitted S.Store tx.old.conn.now tx.new.conn.now }
 {
@@ -50,9 +51,9 @@ pub fn take_grant<S: Alter>(
 
 /// Takes each grant on the repository out.
 pub fn take_grants<S: Alter>(tx: &mut Transaction<'_, S>, repo: &str) -> Result<(), Fault>
-    ensures taken { Changes S.Store tx.old.conn.now tx.new.conn.now result
+    ensures taken { (l : Layout) → Changes S.Store l tx.old.conn.now tx.new.conn.now result
         (grants_without (of_second repo.now)) }
-    ensures kept { KeepsInside S.Store tx.old.conn.now tx.new.conn.now }
+    ensures kept { (l : Layout) → KeepsInside S.Store l tx.old.conn.now tx.new.conn.now }
     ensures same_reference { tx.new.conn.ghost_name ≡ tx.old.conn.ghost_name }
     ensures survives { LastsUncommitted S.Store tx.old.conn.now tx.new.conn.now }
 {
@@ -61,9 +62,9 @@ pub fn take_grants<S: Alter>(tx: &mut Transaction<'_, S>, repo: &str) -> Result<
 
 /// Takes each grant to the token out.
 pub fn take_token_grants<S: Alter>(tx: &mut Transaction<'_, S>, token: &str) -> Result<(), Fault>
-    ensures taken { Changes S.Store tx.old.conn.now tx.new.conn.now result
+    ensures taken { (l : Layout) → Changes S.Store l tx.old.conn.now tx.new.conn.now result
         (grants_without (of_first token.now)) }
-    ensures kept { KeepsInside S.Store tx.old.conn.now tx.new.conn.now }
+    ensures kept { (l : Layout) → KeepsInside S.Store l tx.old.conn.now tx.new.conn.now }
     ensures same_reference { tx.new.conn.ghost_name ≡ tx.old.conn.ghost_name }
     ensures survives { LastsUncommitted S.Store tx.old.conn.now tx.new.conn.now }
 {
@@ -80,11 +81,11 @@ pub fn set_level<S: Alter>(
     repo: &str,
     level: Level,
 ) -> Result<usize, Fault>
-    ensures set { Changes S.Store tx.old.conn.now tx.new.conn.now result
+    ensures set { (l : Layout) → Changes S.Store l tx.old.conn.now tx.new.conn.now result
         (grants_changed (has_key token.now repo.now) (with_level level)) }
-    ensures counted { FindsInside S.Store tx.old.conn.now tx.new.conn.now result
+    ensures counted { (l : Layout) → FindsInside S.Store l tx.old.conn.now tx.new.conn.now result
         (λ t n. n ≡ length (filter (has_key token.now repo.now) t.grants)) }
-    ensures kept { KeepsInside S.Store tx.old.conn.now tx.new.conn.now }
+    ensures kept { (l : Layout) → KeepsInside S.Store l tx.old.conn.now tx.new.conn.now }
     ensures same_reference { tx.new.conn.ghost_name ≡ tx.old.conn.ghost_name }
     ensures survives { LastsUncommitted S.Store tx.old.conn.now tx.new.conn.now }
 {
@@ -101,10 +102,10 @@ pub fn add_grant<S: Alter>(
     repo: &str,
     level: Level,
 ) -> Result<(), Fault>
-    ensures added { Adds S.Store tx.old.conn.now tx.new.conn.now result
+    ensures added { (l : Layout) → Adds S.Store l tx.old.conn.now tx.new.conn.now result
         (λ t. find (has_key token.now repo.now) t.grants ≡ None) GrantComes
         (grant_columns token.now repo.now level) }
-    ensures kept { KeepsInside S.Store tx.old.conn.now tx.new.conn.now }
+    ensures kept { (l : Layout) → KeepsInside S.Store l tx.old.conn.now tx.new.conn.now }
     ensures same_reference { tx.new.conn.ghost_name ≡ tx.old.conn.ghost_name }
     ensures survives { LastsUncommitted S.Store tx.old.conn.now tx.new.conn.now }
 {
@@ -140,10 +141,10 @@ pub fn find_level<S: Alter>(
     token: &str,
     repo: &str,
 ) -> Result<Option<Level>, Fault>
-    ensures found { Finds S.Store conn.old conn.new result
+    ensures found { (l : Layout) → Finds S.Store l conn.old conn.new result
         (λ t o. o ≡ option_map (λ r. level_of (natural_at r 3))
         (find (has_key token.now repo.now) t.grants)) }
-    ensures settled { Stays S.Store conn.old conn.new result }
+    ensures settled { (l : Layout) → Stays S.Store l conn.old conn.new result }
     ensures survives { Lasts S.Store conn.old conn.new }
 {
     let shown = conn.query_all(
@@ -156,9 +157,9 @@ pub fn find_level<S: Alter>(
 
 /// Whether the token has a grant on some repository: one row is asked for, however many it has.
 pub fn is_known<S: Alter>(conn: &mut Connection<S>, token: &str) -> Result<bool, Fault>
-    ensures found { Finds S.Store conn.old conn.new result
+    ensures found { (l : Layout) → Finds S.Store l conn.old conn.new result
         (λ t known. known ≡ nat_lt 0 (length (filter (of_first token.now) t.grants))) }
-    ensures settled { Stays S.Store conn.old conn.new result }
+    ensures settled { (l : Layout) → Stays S.Store l conn.old conn.new result }
     ensures survives { Lasts S.Store conn.old conn.new }
 {
     let shown = conn.query_all(
@@ -171,11 +172,11 @@ pub fn is_known<S: Alter>(conn: &mut Connection<S>, token: &str) -> Result<bool,
 
 /// The token of each grant on the repository, in byte order, with the number of its level.
 pub fn token_rows<S: Alter>(conn: &mut Connection<S>, repo: &str) -> Result<Vec<Row>, Error>
-    ensures shown { Finds S.Store conn.old conn.new result
+    ensures shown { (l : Layout) → Finds S.Store l conn.old conn.new result
         (λ t rows. rows.items ≡ map (λ r. column r 1 ∷ column r 3 ∷ [])
         (sort_by by_token (filter (of_second repo.now) t.grants))) }
-    ensures same { ChangesNothing S.Store conn.old conn.new result }
-    ensures err { FailsAsWas S.Store conn.old conn.new result }
+    ensures same { (l : Layout) → ChangesNothing S.Store l conn.old conn.new result }
+    ensures err { (l : Layout) → FailsAsWas S.Store l conn.old conn.new result }
     ensures survives { Lasts S.Store conn.old conn.new }
 {
     conn.query_all(

@@ -1,6 +1,7 @@
 //! The rows of the pieces of upload sessions.
 ghost use Rattle.std.specs.Prelude.{◌≡◌, ◌<◌, ◌^◌, map, find, None};
 ghost use Rattle.std.specs.List.Sorted.{IsPermutation};
+ghost use Rattle.store_contents.specs.Layouts.{Layout};
 ghost use Rattle.store_statements.specs.Keys.{of_first, of_session, has_start};
 ghost use Rattle.store_statements.specs.Changes.{piece_columns};
 ghost use Rattle.store_statements.specs.World.{pieces_of};
@@ -23,9 +24,9 @@ pub fn take_pieces_of<S: Alter>(
     number: u64,
 ) -> Result<(), Fault>
     requires fits { number < 2 ^ 63 }
-    ensures taken { Changes S.Store tx.old.conn.now tx.new.conn.now result
+    ensures taken { (l : Layout) → Changes S.Store l tx.old.conn.now tx.new.conn.now result
         (pieces_without (of_session repo.now number)) }
-    ensures kept { KeepsInside S.Store tx.old.conn.now tx.new.conn.now }
+    ensures kept { (l : Layout) → KeepsInside S.Store l tx.old.conn.now tx.new.conn.now }
     ensures same_reference { tx.new.conn.ghost_name ≡ tx.old.conn.ghost_name }
     ensures survives { LastsUncommitted S.Store tx.old.conn.now tx.new.conn.now }
 {
@@ -37,9 +38,9 @@ pub fn take_pieces_of<S: Alter>(
 
 /// Takes the pieces of all sessions of the repository out.
 pub fn take_pieces<S: Alter>(tx: &mut Transaction<'_, S>, repo: &str) -> Result<(), Fault>
-    ensures taken { Changes S.Store tx.old.conn.now tx.new.conn.now result
+    ensures taken { (l : Layout) → Changes S.Store l tx.old.conn.now tx.new.conn.now result
         (pieces_without (of_first repo.now)) }
-    ensures kept { KeepsInside S.Store tx.old.conn.now tx.new.conn.now }
+    ensures kept { (l : Layout) → KeepsInside S.Store l tx.old.conn.now tx.new.conn.now }
     ensures same_reference { tx.new.conn.ghost_name ≡ tx.old.conn.ghost_name }
     ensures survives { LastsUncommitted S.Store tx.old.conn.now tx.new.conn.now }
 {
@@ -58,10 +59,10 @@ pub fn add_piece<S: Alter>(
     requires number_fits { number < 2 ^ 63 }
     requires start_fits { start < 2 ^ 63 }
     requires size_fits { size < 2 ^ 63 }
-    ensures added { Adds S.Store tx.old.conn.now tx.new.conn.now result
+    ensures added { (l : Layout) → Adds S.Store l tx.old.conn.now tx.new.conn.now result
         (λ t. find (has_start repo.now number start) t.pieces ≡ None) PieceComes
         (piece_columns repo.now number start size content.id) }
-    ensures kept { KeepsInside S.Store tx.old.conn.now tx.new.conn.now }
+    ensures kept { (l : Layout) → KeepsInside S.Store l tx.old.conn.now tx.new.conn.now }
     ensures same_reference { tx.new.conn.ghost_name ≡ tx.old.conn.ghost_name }
     ensures survives { LastsUncommitted S.Store tx.old.conn.now tx.new.conn.now }
 {
@@ -85,10 +86,10 @@ pub fn pieces_in_order<S: Alter>(
     number: u64,
 ) -> Result<Vec<ContentId>, Fault>
     requires fits { number < 2 ^ 63 }
-    ensures found { Finds S.Store conn.old conn.new result
+    ensures found { (l : Layout) → Finds S.Store l conn.old conn.new result
         (λ t ids. ids.items ≡ map (content_named 5) (pieces_of t.pieces repo.now number)) }
-    ensures settled { Stays S.Store conn.old conn.new result }
-    ensures kept { Keeps S.Store conn.old conn.new }
+    ensures settled { (l : Layout) → Stays S.Store l conn.old conn.new result }
+    ensures kept { (l : Layout) → Keeps S.Store l conn.old conn.new }
     ensures survives { Lasts S.Store conn.old conn.new }
 {
     let shown = conn.query_all(
@@ -104,10 +105,10 @@ pub fn piece_contents<S: Alter>(
     alloc: Global,
     tx: &mut Transaction<'_, S>,
 ) -> Result<Vec<ContentId>, Fault>
-    ensures found { FindsInside S.Store tx.old.conn.now tx.new.conn.now result
+    ensures found { (l : Layout) → FindsInside S.Store l tx.old.conn.now tx.new.conn.now result
         (λ t ids. IsPermutation (map (content_named 5) t.pieces) ids.items) }
-    ensures same { ChangesNothingInside S.Store tx.old.conn.now tx.new.conn.now result }
-    ensures kept { KeepsInside S.Store tx.old.conn.now tx.new.conn.now }
+    ensures same { (l : Layout) → ChangesNothingInside S.Store l tx.old.conn.now tx.new.conn.now result }
+    ensures kept { (l : Layout) → KeepsInside S.Store l tx.old.conn.now tx.new.conn.now }
     ensures same_reference { tx.new.conn.ghost_name ≡ tx.old.conn.ghost_name }
     ensures survives { LastsUncommitted S.Store tx.old.conn.now tx.new.conn.now }
 {

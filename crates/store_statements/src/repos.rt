@@ -4,6 +4,7 @@ ghost use Rattle.sqlite.specs.State.{HasCleanDisk};
 ghost use Rattle.sqlite_keyed.specs.Lists.{sort_by};
 ghost use Rattle.store_schema.specs.Rows.{bytes_at};
 ghost use Rattle.sqlite.specs.Held.{state};
+ghost use Rattle.store_contents.specs.Layouts.{Layout};
 ghost use Rattle.store_statements.specs.Keys.{of_first};
 ghost use Rattle.store_statements.specs.Changes.{with_quota, with_last, repo_columns};
 ghost use Rattle.store_statements.specs.Between.{Finds, Keeps, Stays};
@@ -32,9 +33,9 @@ pub struct RepoRow {
 /// Puts a repository in that is not there, with no upload session.
 pub fn add_repo<S: Alter>(tx: &mut Transaction<'_, S>, name: &str, quota: u64) -> Result<(), Fault>
     requires fits { quota < 2 ^ 63 }
-    ensures added { Adds S.Store tx.old.conn.now tx.new.conn.now result
+    ensures added { (l : Layout) → Adds S.Store l tx.old.conn.now tx.new.conn.now result
         (λ t. find (of_first name.now) t.repos ≡ None) RepoComes (repo_columns name.now quota) }
-    ensures kept { KeepsInside S.Store tx.old.conn.now tx.new.conn.now }
+    ensures kept { (l : Layout) → KeepsInside S.Store l tx.old.conn.now tx.new.conn.now }
     ensures same_reference { tx.new.conn.ghost_name ≡ tx.old.conn.ghost_name }
     ensures survives { LastsUncommitted S.Store tx.old.conn.now tx.new.conn.now }
 {
@@ -51,11 +52,11 @@ pub fn set_quota<S: Alter>(
     quota: u64,
 ) -> Result<usize, Fault>
     requires fits { quota < 2 ^ 63 }
-    ensures set { Changes S.Store tx.old.conn.now tx.new.conn.now result
+    ensures set { (l : Layout) → Changes S.Store l tx.old.conn.now tx.new.conn.now result
         (repos_changed (of_first name.now) (with_quota quota)) }
-    ensures counted { FindsInside S.Store tx.old.conn.now tx.new.conn.now result
+    ensures counted { (l : Layout) → FindsInside S.Store l tx.old.conn.now tx.new.conn.now result
         (λ t n. n ≡ length (filter (of_first name.now) t.repos)) }
-    ensures kept { KeepsInside S.Store tx.old.conn.now tx.new.conn.now }
+    ensures kept { (l : Layout) → KeepsInside S.Store l tx.old.conn.now tx.new.conn.now }
     ensures same_reference { tx.new.conn.ghost_name ≡ tx.old.conn.ghost_name }
     ensures survives { LastsUncommitted S.Store tx.old.conn.now tx.new.conn.now }
 {
@@ -73,11 +74,11 @@ pub fn set_last<S: Alter>(
     number: u64,
 ) -> Result<usize, Fault>
     requires fits { number < 2 ^ 63 }
-    ensures set { Changes S.Store tx.old.conn.now tx.new.conn.now result
+    ensures set { (l : Layout) → Changes S.Store l tx.old.conn.now tx.new.conn.now result
         (repos_changed (of_first name.now) (with_last number)) }
-    ensures counted { FindsInside S.Store tx.old.conn.now tx.new.conn.now result
+    ensures counted { (l : Layout) → FindsInside S.Store l tx.old.conn.now tx.new.conn.now result
         (λ t n. n ≡ length (filter (of_first name.now) t.repos)) }
-    ensures kept { KeepsInside S.Store tx.old.conn.now tx.new.conn.now }
+    ensures kept { (l : Layout) → KeepsInside S.Store l tx.old.conn.now tx.new.conn.now }
     ensures same_reference { tx.new.conn.ghost_name ≡ tx.old.conn.ghost_name }
     ensures survives { LastsUncommitted S.Store tx.old.conn.now tx.new.conn.now }
 {
@@ -89,12 +90,13 @@ pub fn set_last<S: Alter>(
 
 /// Takes a repository out that no row of another table names, where it is there.
 pub fn take_repo<S: Alter>(tx: &mut Transaction<'_, S>, name: &str) -> Result<(), Fault>
-    ensures taken { HasCleanDisk (state S.Store tx.new.conn.now) → IsReady (state S.Store tx.old.conn.now)
-        → HasNoChildren (held (state S.Store tx.old.conn.now)) name.now
+    ensures taken { (l : Layout) → HasCleanDisk (state S.Store tx.new.conn.now)
+        → IsReady l (state S.Store tx.old.conn.now)
+        → HasNoChildren (held l (state S.Store tx.old.conn.now)) name.now
         → OnOk result
-        (Becomes (state S.Store tx.new.conn.now)
-        (repos_without (of_first name.now) (held (state S.Store tx.old.conn.now)))) }
-    ensures kept { KeepsInside S.Store tx.old.conn.now tx.new.conn.now }
+        (Becomes l (state S.Store tx.new.conn.now)
+        (repos_without (of_first name.now) (held l (state S.Store tx.old.conn.now)))) }
+    ensures kept { (l : Layout) → KeepsInside S.Store l tx.old.conn.now tx.new.conn.now }
     ensures same_reference { tx.new.conn.ghost_name ≡ tx.old.conn.ghost_name }
     ensures survives { LastsUncommitted S.Store tx.old.conn.now tx.new.conn.now }
 {
@@ -113,10 +115,10 @@ impl FromRow for RepoRow {
 
 /// What the row of the repository has, if there is one.
 pub fn find_repo<S: Alter>(conn: &mut Connection<S>, name: &str) -> Result<Option<RepoRow>, Fault>
-    ensures found { Finds S.Store conn.old conn.new result
+    ensures found { (l : Layout) → Finds S.Store l conn.old conn.new result
         (λ t o. o ≡ option_map repo_row (find (of_first name.now) t.repos)) }
-    ensures settled { Stays S.Store conn.old conn.new result }
-    ensures kept { Keeps S.Store conn.old conn.new }
+    ensures settled { (l : Layout) → Stays S.Store l conn.old conn.new result }
+    ensures kept { (l : Layout) → Keeps S.Store l conn.old conn.new }
     ensures survives { Lasts S.Store conn.old conn.new }
 {
     let shown = conn.query_all(
@@ -129,9 +131,9 @@ pub fn find_repo<S: Alter>(conn: &mut Connection<S>, name: &str) -> Result<Optio
 
 /// The name of each repository, in the order of their bytes.
 pub fn list_repos<S: Alter>(alloc: Global, conn: &mut Connection<S>) -> Result<Vec<RepoName>, Fault>
-    ensures found { Finds S.Store conn.old conn.new result
+    ensures found { (l : Layout) → Finds S.Store l conn.old conn.new result
         (λ t names. names.items ≡ map (λ r. bytes_at r 1) (sort_by by_name t.repos)) }
-    ensures settled { Stays S.Store conn.old conn.new result }
+    ensures settled { (l : Layout) → Stays S.Store l conn.old conn.new result }
     ensures survives { Lasts S.Store conn.old conn.new }
 {
     let shown = conn.query_all("SELECT name FROM registry_repos ORDER BY name", &[]);
@@ -141,8 +143,8 @@ pub fn list_repos<S: Alter>(alloc: Global, conn: &mut Connection<S>) -> Result<V
 
 /// How many repositories there are.
 pub fn count_repos<S: Alter>(conn: &mut Connection<S>) -> Result<usize, Fault>
-    ensures found { Finds S.Store conn.old conn.new result (λ t n. n ≡ length t.repos) }
-    ensures settled { Stays S.Store conn.old conn.new result }
+    ensures found { (l : Layout) → Finds S.Store l conn.old conn.new result (λ t n. n ≡ length t.repos) }
+    ensures settled { (l : Layout) → Stays S.Store l conn.old conn.new result }
     ensures survives { Lasts S.Store conn.old conn.new }
 {
     let shown = conn.query_all("SELECT name FROM registry_repos ORDER BY name", &[]);

@@ -2,6 +2,7 @@
 ghost use Rattle.std.specs.Prelude.{◌≡◌, true, map, filter};
 ghost use Rattle.sqlite_keyed.specs.Lists.{sort_by};
 ghost use Rattle.oci_types.specs.Digest.{is_digest};
+ghost use Rattle.store_contents.specs.Layouts.{Layout};
 ghost use Rattle.store_statements.specs.Keys.{on_subject};
 ghost use Rattle.store_statements.specs.Between.{Finds, Stays};
 ghost use Rattle.store_statements.specs.Clauses.{Lasts};
@@ -33,10 +34,10 @@ pub fn manifests_on_subject<S: Alter>(
     digest: &str,
 ) -> Result<Vec<(Digest, ContentId)>, Fault>
     requires digest { is_digest digest.now ≡ true }
-    ensures found { Finds S.Store conn.old conn.new result
+    ensures found { (l : Layout) → Finds S.Store l conn.old conn.new result
         (λ t found. found.items ≡ map referrer
         (sort_by by_second (filter (on_subject repo.now digest.now) t.manifests))) }
-    ensures settled { Stays S.Store conn.old conn.new result }
+    ensures settled { (l : Layout) → Stays S.Store l conn.old conn.new result }
     ensures survives { Lasts S.Store conn.old conn.new }
 {
     let shown = conn.query_all(

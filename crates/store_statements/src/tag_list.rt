@@ -1,6 +1,7 @@
 //! The tags of a repository with the digests that they name.
 ghost use Rattle.std.specs.Prelude.{◌≡◌, filter, map};
 ghost use Rattle.sqlite_keyed.specs.Lists.{sort_by};
+ghost use Rattle.store_contents.specs.Layouts.{Layout};
 ghost use Rattle.store_statements.specs.Keys.{of_first};
 ghost use Rattle.store_statements.specs.Between.{Finds, Stays};
 ghost use Rattle.store_statements.specs.Clauses.{Lasts};
@@ -29,9 +30,9 @@ pub fn list_tags<S: Alter>(
     conn: &mut Connection<S>,
     repo: &str,
 ) -> Result<Vec<(Tag, Digest)>, Fault>
-    ensures found { Finds S.Store conn.old conn.new result
+    ensures found { (l : Layout) → Finds S.Store l conn.old conn.new result
         (λ t tags. tags.items ≡ map tag_row (sort_by by_second (filter (of_first repo.now) t.tags))) }
-    ensures settled { Stays S.Store conn.old conn.new result }
+    ensures settled { (l : Layout) → Stays S.Store l conn.old conn.new result }
     ensures survives { Lasts S.Store conn.old conn.new }
 {
     let shown = conn.query_all(

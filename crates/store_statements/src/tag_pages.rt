@@ -2,6 +2,7 @@
 ghost use Rattle.std.specs.Prelude.{◌≡◌, IfOk, map, length};
 ghost use Rattle.registry_model.specs.TagPage.{first_of, more_than};
 ghost use Rattle.store_schema.specs.Rows.{bytes_at};
+ghost use Rattle.store_contents.specs.Layouts.{Layout};
 ghost use Rattle.store_statements.specs.Between.{Finds, Stays};
 ghost use Rattle.store_statements.specs.Clauses.{Lasts};
 ghost use Rattle.store_statements.specs.TagPages.{tags_behind, IsEnough, first_rows, are_more};
@@ -83,10 +84,10 @@ pub fn tags_page<S: Alter>(
     last: &str,
     n: Option<u64>,
 ) -> Result<TagPage, Fault>
-    ensures found { Finds S.Store conn.old conn.new result
+    ensures found { (l : Layout) → Finds S.Store l conn.old conn.new result
         (λ t page. (page.tags.items ≡ first_of n (tags_behind t.tags repo.now last.now)) ×
         (page.more ≡ more_than n (tags_behind t.tags repo.now last.now))) }
-    ensures settled { Stays S.Store conn.old conn.new result }
+    ensures settled { (l : Layout) → Stays S.Store l conn.old conn.new result }
     ensures survives { Lasts S.Store conn.old conn.new }
 {
     let shown = conn.query_all(

@@ -1,6 +1,7 @@
 //! The rows of tags.
 ghost use Rattle.std.specs.Prelude.{◌≡◌, find, filter, length, option_map, None};
 ghost use Rattle.store_schema.specs.Rows.{bytes_at};
+ghost use Rattle.store_contents.specs.Layouts.{Layout};
 ghost use Rattle.store_statements.specs.Keys.{of_first, has_key};
 ghost use Rattle.store_statements.specs.Changes.{with_digest, tag_columns};
 ghost use Rattle.store_statements.specs.Between.{Finds, Keeps, Stays};
@@ -16,9 +17,9 @@ use store_contents::{done, told};
 
 /// Takes the tag out, where it is there.
 pub fn take_tag<S: Alter>(tx: &mut Transaction<'_, S>, repo: &str, tag: &str) -> Result<(), Fault>
-    ensures taken { Changes S.Store tx.old.conn.now tx.new.conn.now result
+    ensures taken { (l : Layout) → Changes S.Store l tx.old.conn.now tx.new.conn.now result
         (tags_without (has_key repo.now tag.now)) }
-    ensures kept { KeepsInside S.Store tx.old.conn.now tx.new.conn.now }
+    ensures kept { (l : Layout) → KeepsInside S.Store l tx.old.conn.now tx.new.conn.now }
     ensures same_reference { tx.new.conn.ghost_name ≡ tx.old.conn.ghost_name }
     ensures survives { LastsUncommitted S.Store tx.old.conn.now tx.new.conn.now }
 {
@@ -35,11 +36,11 @@ pub fn set_tag<S: Alter>(
     tag: &str,
     digest: &str,
 ) -> Result<usize, Fault>
-    ensures set { Changes S.Store tx.old.conn.now tx.new.conn.now result
+    ensures set { (l : Layout) → Changes S.Store l tx.old.conn.now tx.new.conn.now result
         (tags_changed (has_key repo.now tag.now) (with_digest digest.now)) }
-    ensures counted { FindsInside S.Store tx.old.conn.now tx.new.conn.now result
+    ensures counted { (l : Layout) → FindsInside S.Store l tx.old.conn.now tx.new.conn.now result
         (λ t n. n ≡ length (filter (has_key repo.now tag.now) t.tags)) }
-    ensures kept { KeepsInside S.Store tx.old.conn.now tx.new.conn.now }
+    ensures kept { (l : Layout) → KeepsInside S.Store l tx.old.conn.now tx.new.conn.now }
     ensures same_reference { tx.new.conn.ghost_name ≡ tx.old.conn.ghost_name }
     ensures survives { LastsUncommitted S.Store tx.old.conn.now tx.new.conn.now }
 {
@@ -56,10 +57,10 @@ pub fn add_tag<S: Alter>(
     tag: &str,
     digest: &str,
 ) -> Result<(), Fault>
-    ensures added { Adds S.Store tx.old.conn.now tx.new.conn.now result
+    ensures added { (l : Layout) → Adds S.Store l tx.old.conn.now tx.new.conn.now result
         (λ t. find (has_key repo.now tag.now) t.tags ≡ None) TagComes
         (tag_columns repo.now tag.now digest.now) }
-    ensures kept { KeepsInside S.Store tx.old.conn.now tx.new.conn.now }
+    ensures kept { (l : Layout) → KeepsInside S.Store l tx.old.conn.now tx.new.conn.now }
     ensures same_reference { tx.new.conn.ghost_name ≡ tx.old.conn.ghost_name }
     ensures survives { LastsUncommitted S.Store tx.old.conn.now tx.new.conn.now }
 {
@@ -75,9 +76,9 @@ pub fn take_tags_named<S: Alter>(
     repo: &str,
     digest: &str,
 ) -> Result<(), Fault>
-    ensures taken { Changes S.Store tx.old.conn.now tx.new.conn.now result
+    ensures taken { (l : Layout) → Changes S.Store l tx.old.conn.now tx.new.conn.now result
         (tags_without (names_digest repo.now digest.now)) }
-    ensures kept { KeepsInside S.Store tx.old.conn.now tx.new.conn.now }
+    ensures kept { (l : Layout) → KeepsInside S.Store l tx.old.conn.now tx.new.conn.now }
     ensures same_reference { tx.new.conn.ghost_name ≡ tx.old.conn.ghost_name }
     ensures survives { LastsUncommitted S.Store tx.old.conn.now tx.new.conn.now }
 {
@@ -89,9 +90,9 @@ pub fn take_tags_named<S: Alter>(
 
 /// Takes out all tags of the repository.
 pub fn take_tags<S: Alter>(tx: &mut Transaction<'_, S>, repo: &str) -> Result<(), Fault>
-    ensures taken { Changes S.Store tx.old.conn.now tx.new.conn.now result
+    ensures taken { (l : Layout) → Changes S.Store l tx.old.conn.now tx.new.conn.now result
         (tags_without (of_first repo.now)) }
-    ensures kept { KeepsInside S.Store tx.old.conn.now tx.new.conn.now }
+    ensures kept { (l : Layout) → KeepsInside S.Store l tx.old.conn.now tx.new.conn.now }
     ensures same_reference { tx.new.conn.ghost_name ≡ tx.old.conn.ghost_name }
     ensures survives { LastsUncommitted S.Store tx.old.conn.now tx.new.conn.now }
 {
@@ -105,10 +106,10 @@ pub fn find_tag<S: Alter>(
     repo: &str,
     tag: &str,
 ) -> Result<Option<Digest>, Fault>
-    ensures found { Finds S.Store conn.old conn.new result
+    ensures found { (l : Layout) → Finds S.Store l conn.old conn.new result
         (λ t o. o ≡ option_map (λ r. bytes_at r 3) (find (has_key repo.now tag.now) t.tags)) }
-    ensures settled { Stays S.Store conn.old conn.new result }
-    ensures kept { Keeps S.Store conn.old conn.new }
+    ensures settled { (l : Layout) → Stays S.Store l conn.old conn.new result }
+    ensures kept { (l : Layout) → Keeps S.Store l conn.old conn.new }
     ensures survives { Lasts S.Store conn.old conn.new }
 {
     let shown = conn.query_all(
@@ -121,9 +122,9 @@ pub fn find_tag<S: Alter>(
 
 /// How many tags the repository has.
 pub fn count_tags<S: Alter>(conn: &mut Connection<S>, repo: &str) -> Result<usize, Fault>
-    ensures found { Finds S.Store conn.old conn.new result
+    ensures found { (l : Layout) → Finds S.Store l conn.old conn.new result
         (λ t n. n ≡ length (filter (of_first repo.now) t.tags)) }
-    ensures settled { Stays S.Store conn.old conn.new result }
+    ensures settled { (l : Layout) → Stays S.Store l conn.old conn.new result }
     ensures survives { Lasts S.Store conn.old conn.new }
 {
     let shown = conn.query_all(
@@ -140,10 +141,10 @@ pub fn count_tags_named<S: Alter>(
     repo: &str,
     digest: &str,
 ) -> Result<usize, Fault>
-    ensures found { Finds S.Store conn.old conn.new result
+    ensures found { (l : Layout) → Finds S.Store l conn.old conn.new result
         (λ t n. n ≡ length (filter (names_digest repo.now digest.now) t.tags)) }
-    ensures settled { Stays S.Store conn.old conn.new result }
-    ensures kept { Keeps S.Store conn.old conn.new }
+    ensures settled { (l : Layout) → Stays S.Store l conn.old conn.new result }
+    ensures kept { (l : Layout) → Keeps S.Store l conn.old conn.new }
     ensures survives { Lasts S.Store conn.old conn.new }
 {
     let shown = conn.query_all(

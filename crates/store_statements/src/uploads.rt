@@ -2,6 +2,7 @@
 ghost use Rattle.std.specs.Prelude.{◌≡◌, ◌<◌, ◌^◌, map, filter, find, length, None, option_map};
 ghost use Rattle.std.specs.List.Sorted.{IsPermutation};
 ghost use Rattle.store_schema.specs.Rows.{natural_at};
+ghost use Rattle.store_contents.specs.Layouts.{Layout};
 ghost use Rattle.store_statements.specs.Keys.{of_first, of_session};
 ghost use Rattle.store_statements.specs.Changes.{with_size, upload_columns};
 ghost use Rattle.store_statements.specs.Between.{Finds, Keeps, Stays};
@@ -22,9 +23,9 @@ pub fn take_upload<S: Alter>(
     number: u64,
 ) -> Result<(), Fault>
     requires fits { number < 2 ^ 63 }
-    ensures taken { Changes S.Store tx.old.conn.now tx.new.conn.now result
+    ensures taken { (l : Layout) → Changes S.Store l tx.old.conn.now tx.new.conn.now result
         (uploads_without (of_session repo.now number)) }
-    ensures kept { KeepsInside S.Store tx.old.conn.now tx.new.conn.now }
+    ensures kept { (l : Layout) → KeepsInside S.Store l tx.old.conn.now tx.new.conn.now }
     ensures same_reference { tx.new.conn.ghost_name ≡ tx.old.conn.ghost_name }
     ensures survives { LastsUncommitted S.Store tx.old.conn.now tx.new.conn.now }
 {
@@ -36,9 +37,9 @@ pub fn take_upload<S: Alter>(
 
 /// Takes all sessions of the repository out.
 pub fn take_uploads<S: Alter>(tx: &mut Transaction<'_, S>, repo: &str) -> Result<(), Fault>
-    ensures taken { Changes S.Store tx.old.conn.now tx.new.conn.now result
+    ensures taken { (l : Layout) → Changes S.Store l tx.old.conn.now tx.new.conn.now result
         (uploads_without (of_first repo.now)) }
-    ensures kept { KeepsInside S.Store tx.old.conn.now tx.new.conn.now }
+    ensures kept { (l : Layout) → KeepsInside S.Store l tx.old.conn.now tx.new.conn.now }
     ensures same_reference { tx.new.conn.ghost_name ≡ tx.old.conn.ghost_name }
     ensures survives { LastsUncommitted S.Store tx.old.conn.now tx.new.conn.now }
 {
@@ -57,11 +58,11 @@ pub fn set_size<S: Alter>(
 ) -> Result<usize, Fault>
     requires number_fits { number < 2 ^ 63 }
     requires size_fits { size < 2 ^ 63 }
-    ensures set { Changes S.Store tx.old.conn.now tx.new.conn.now result
+    ensures set { (l : Layout) → Changes S.Store l tx.old.conn.now tx.new.conn.now result
         (uploads_changed (of_session repo.now number) (with_size size)) }
-    ensures counted { FindsInside S.Store tx.old.conn.now tx.new.conn.now result
+    ensures counted { (l : Layout) → FindsInside S.Store l tx.old.conn.now tx.new.conn.now result
         (λ t n. n ≡ length (filter (of_session repo.now number) t.uploads)) }
-    ensures kept { KeepsInside S.Store tx.old.conn.now tx.new.conn.now }
+    ensures kept { (l : Layout) → KeepsInside S.Store l tx.old.conn.now tx.new.conn.now }
     ensures same_reference { tx.new.conn.ghost_name ≡ tx.old.conn.ghost_name }
     ensures survives { LastsUncommitted S.Store tx.old.conn.now tx.new.conn.now }
 {
@@ -78,10 +79,10 @@ pub fn add_upload<S: Alter>(
     number: u64,
 ) -> Result<(), Fault>
     requires fits { number < 2 ^ 63 }
-    ensures added { Adds S.Store tx.old.conn.now tx.new.conn.now result
+    ensures added { (l : Layout) → Adds S.Store l tx.old.conn.now tx.new.conn.now result
         (λ t. find (of_session repo.now number) t.uploads ≡ None) UploadComes
         (upload_columns repo.now number) }
-    ensures kept { KeepsInside S.Store tx.old.conn.now tx.new.conn.now }
+    ensures kept { (l : Layout) → KeepsInside S.Store l tx.old.conn.now tx.new.conn.now }
     ensures same_reference { tx.new.conn.ghost_name ≡ tx.old.conn.ghost_name }
     ensures survives { LastsUncommitted S.Store tx.old.conn.now tx.new.conn.now }
 {
@@ -98,10 +99,10 @@ pub fn find_upload<S: Alter>(
     number: u64,
 ) -> Result<Option<u64>, Fault>
     requires fits { number < 2 ^ 63 }
-    ensures found { Finds S.Store conn.old conn.new result
+    ensures found { (l : Layout) → Finds S.Store l conn.old conn.new result
         (λ t o. o ≡ option_map (λ r. natural_at r 3) (find (of_session repo.now number) t.uploads)) }
-    ensures settled { Stays S.Store conn.old conn.new result }
-    ensures kept { Keeps S.Store conn.old conn.new }
+    ensures settled { (l : Layout) → Stays S.Store l conn.old conn.new result }
+    ensures kept { (l : Layout) → Keeps S.Store l conn.old conn.new }
     ensures survives { Lasts S.Store conn.old conn.new }
 {
     let shown = conn.query_all(
@@ -114,9 +115,9 @@ pub fn find_upload<S: Alter>(
 
 /// How many sessions of the repository are open.
 pub fn count_uploads<S: Alter>(conn: &mut Connection<S>, repo: &str) -> Result<usize, Fault>
-    ensures found { Finds S.Store conn.old conn.new result
+    ensures found { (l : Layout) → Finds S.Store l conn.old conn.new result
         (λ t n. n ≡ length (filter (of_first repo.now) t.uploads)) }
-    ensures settled { Stays S.Store conn.old conn.new result }
+    ensures settled { (l : Layout) → Stays S.Store l conn.old conn.new result }
     ensures survives { Lasts S.Store conn.old conn.new }
 {
     let shown = conn.query_all(
@@ -133,11 +134,11 @@ pub fn upload_sizes<S: Alter>(
     conn: &mut Connection<S>,
     repo: &str,
 ) -> Result<Vec<u64>, Fault>
-    ensures found { Finds S.Store conn.old conn.new result
+    ensures found { (l : Layout) → Finds S.Store l conn.old conn.new result
         (λ t sizes. IsPermutation (map (λ r. natural_at r 3) (filter (of_first repo.now) t.uploads))
         sizes.items) }
-    ensures settled { Stays S.Store conn.old conn.new result }
-    ensures kept { Keeps S.Store conn.old conn.new }
+    ensures settled { (l : Layout) → Stays S.Store l conn.old conn.new result }
+    ensures kept { (l : Layout) → Keeps S.Store l conn.old conn.new }
     ensures survives { Lasts S.Store conn.old conn.new }
 {
     let shown = conn.query_all(

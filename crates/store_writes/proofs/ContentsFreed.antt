@@ -23,6 +23,7 @@ use Rattle.store_schema.proofs.Selects.{commit_then, survives_both}
 use Rattle.store_contents.specs.declared.content_id.ContentId.{ContentId}
 use Rattle.store_contents.specs.Contents.{IsInside, Removes, HoldsContents, bytes_in, content_rows}
 use Rattle.store_contents.specs.Linked.{is_linked, ids_of}
+use Rattle.store_contents.specs.Layouts.{Layout, InTables}
 use Rattle.store_statements.specs.Tables.{Tables}
 use Rattle.store_statements.specs.Registry.{IsRegistry}
 use Rattle.store_statements.specs.World.{world_of}
@@ -36,23 +37,23 @@ use Rattle.store_writes.proofs.ContentNaming.{or_none, or_turned, among_column, 
 
 -- ---- a statement that only read
 
-pub still_ready : (old new : State) → IsReady old → IsUnchanged old new → IsReady new
-still_ready old new is u = record { inside = subst IsTrue (sym u.0.mode) is.inside; holds = subst HoldsTables (sym u.0.now_is) is.holds }
+pub still_ready : {l : Layout} → (old new : State) → IsReady l old → IsUnchanged old new → IsReady l new
+still_ready {l} old new is u = record { inside = subst IsTrue (sym u.0.mode) is.inside; holds = subst (HoldsTables l) (sym u.0.now_is) is.holds }
 
-pub still_held : (old new : State) → IsUnchanged old new → held new ≡ held old
-still_held old new u = ap tables_in u.0.now_is
+pub still_held : (l : Layout) → (old new : State) → IsUnchanged old new → held l new ≡ held l old
+still_held l old new u = ap (tables_in l) u.0.now_is
 
 -- the ids were read from the three tables, one after the other
-pub named_read : (old mid late : State) (none some more all : List ContentId) → IsUnchanged old mid → IsUnchanged mid late → none ≡ [] → ((i : ℤ) → is_among some i ≡ (is_among none i || is_in_column 4 (held old).blobs i))
-    → ((i : ℤ) → is_among more i ≡ (is_among some i || is_in_column 6 (held mid).manifests i)) → ((i : ℤ) → is_among all i ≡ (is_among more i || is_in_column 5 (held late).pieces i)) → (i : ℤ) → is_among all i ≡ is_named (held old) i
-named_read old mid late none some more all u v empty blobs manifests pieces =
-    all_inserted (held old) none some more all empty blobs
-    (λ i. manifests i ∙ ap (λ (t : Tables). is_among some i || is_in_column 6 t.manifests i) (still_held old mid u))
-    (λ i. pieces i ∙ ap (λ (t : Tables). is_among more i || is_in_column 5 t.pieces i) (still_held mid late v ∙ still_held old mid u))
+pub named_read : (l : Layout) → (old mid late : State) (none some more all : List ContentId) → IsUnchanged old mid → IsUnchanged mid late → none ≡ [] → ((i : ℤ) → is_among some i ≡ (is_among none i || is_in_column 4 (held l old).blobs i))
+    → ((i : ℤ) → is_among more i ≡ (is_among some i || is_in_column 6 (held l mid).manifests i)) → ((i : ℤ) → is_among all i ≡ (is_among more i || is_in_column 5 (held l late).pieces i)) → (i : ℤ) → is_among all i ≡ is_named (held l old) i
+named_read l old mid late none some more all u v empty blobs manifests pieces =
+    all_inserted (held l old) none some more all empty blobs
+    (λ i. manifests i ∙ ap (λ (t : Tables). is_among some i || is_in_column 6 t.manifests i) (still_held l old mid u))
+    (λ i. pieces i ∙ ap (λ (t : Tables). is_among more i || is_in_column 5 t.pieces i) (still_held l mid late v ∙ still_held l old mid u))
 
 -- ---- contents that are taken out
 
-pub content_gone : (old new : State) (id : ContentId) → IsReady old → Removes old.now new.now id.id → IsInside new → IsReady new × ContentsGone (held old) (held new) (id ∷ [])
+pub content_gone : (old new : State) (id : ContentId) → IsReady InTables old → Removes old.now new.now id.id → IsInside new → IsReady InTables new × ContentsGone (held InTables old) (held InTables new) (id ∷ [])
 content_gone old new id is gone inside =
     let same = only_contents old.now new.now is.holds.known gone.others in (
       record { inside = inside.inside; holds = holds_beside old.now new.now is.holds gone.others.schema same inside.contents },
@@ -63,7 +64,7 @@ content_gone old new id is gone inside =
     )
 
 -- the same of a call's result
-pub content_gone_if : {A E : Type 0} (old new : State) (id : ContentId) (r : Result A E) → IsReady old → OnOk r (Removes old.now new.now id.id) → OnOk r (IsInside new) → OnOk r (IsReady new × ContentsGone (held old) (held new) (id ∷ []))
+pub content_gone_if : {A E : Type 0} (old new : State) (id : ContentId) (r : Result A E) → IsReady InTables old → OnOk r (Removes old.now new.now id.id) → OnOk r (IsInside new) → OnOk r (IsReady InTables new × ContentsGone (held InTables old) (held InTables new) (id ∷ []))
 content_gone_if old new id (Ok x) is gone inside = content_gone old new id is gone inside
 content_gone_if old new id (Err e) is gone inside = tt
 
@@ -81,7 +82,7 @@ gone_more old mid new ids at d low before now = record {
   contents = λ i.
       now.contents i ∙ ap (λ b. cond b None (mid.contents i)) (or_none (int_eq i (get_or ids at d).id)) ∙ ap (λ x. cond (int_eq i (get_or ids at d).id) None x) (before.contents i) ∙ cond_both (int_eq i (get_or ids at d).id) (is_among (take at ids) i) None (old.contents i)
       ∙ ap (λ b. cond b None (old.contents i)) (sym (list_any_more (λ (other : ContentId). int_eq i other.id) ids at d low));
-  others = now.others ∙ ap (λ (t : Tables). record t { contents = new.contents }) before.others;
+  others = now.others ∙ ap (λ (t : Tables). record t { contents = new.contents; places = new.places }) before.others;
 }
 
 -- ---- contents that nothing names
@@ -118,7 +119,7 @@ left true there o h = refl
 left false true o h = refl
 left false false o h = h refl
 
-pub cleared : (db : Database) (old new : Tables) (linked : BTreeSet ContentId) (ids : List ContentId) → HoldsContents db → old ≡ tables_in db → ((i : ℤ) → is_among (keys linked) i ≡ is_named old i)
+pub cleared : (db : Database) (old new : Tables) (linked : BTreeSet ContentId) (ids : List ContentId) → HoldsContents db → old ≡ tables_in InTables db → ((i : ℤ) → is_among (keys linked) i ≡ is_named old i)
     → IsPermutation (filter (λ id. not (is_linked linked id)) (ids_of db)) ids → ContentsGone old new ids → Cleared old new
 cleared db old new linked ids holds is named same gone = record {
   contents = λ i. gone.contents i ∙ ap (λ b. cond b None (old.contents i)) (lacking_is db old linked ids named same i) ∙ left (is_named old i) (is_in_column 0 (content_rows db) i) (old.contents i) (missing i);
@@ -129,12 +130,12 @@ cleared db old new linked ids holds is named same gone = record {
     missing i e = ap (λ (t : Tables). t.contents i) is ∙ ap (option_map (λ r. bytes_at r 4)) (not_there (content_rows db) i holds.ids.1 e)
 
 -- the steps of a transaction
-pub cleared_if : {A E : Type 0} (old mid late new : State) (linked : BTreeSet ContentId) (ids : List ContentId) (r : Result A E) → IsReady old → IsUnchanged old mid → IsUnchanged mid late → ((i : ℤ) → is_among (keys linked) i ≡ is_named (held old) i)
-    → IsPermutation (filter (λ id. not (is_linked linked id)) (ids_of mid.now)) ids → OnOk r (IsReady new × ContentsGone (held late) (held new) ids) → OnOk r (IsReady new × Cleared (held old) (held new))
+pub cleared_if : {A E : Type 0} (old mid late new : State) (linked : BTreeSet ContentId) (ids : List ContentId) (r : Result A E) → IsReady InTables old → IsUnchanged old mid → IsUnchanged mid late → ((i : ℤ) → is_among (keys linked) i ≡ is_named (held InTables old) i)
+    → IsPermutation (filter (λ id. not (is_linked linked id)) (ids_of mid.now)) ids → OnOk r (IsReady InTables new × ContentsGone (held InTables late) (held InTables new) ids) → OnOk r (IsReady InTables new × Cleared (held InTables old) (held InTables new))
 cleared_if old mid late new linked ids (Ok x) is u v named same gone = (
   gone.0,
-  cleared mid.now (held old) (held new) linked ids (still_ready old mid is u).holds.contents (sym (still_held old mid u)) named same
-      (subst (λ (t : Tables). ContentsGone t (held new) ids) (still_held mid late v ∙ still_held old mid u) gone.1),
+  cleared mid.now (held InTables old) (held InTables new) linked ids (still_ready old mid is u).holds.contents (sym (still_held InTables old mid u)) named same
+      (subst (λ (t : Tables). ContentsGone t (held InTables new) ids) (still_held InTables mid late v ∙ still_held InTables old mid u) gone.1),
 )
 cleared_if old mid late new linked ids (Err e) is u v named same gone = tt
 
@@ -145,35 +146,35 @@ column_stays t new at rows it names = all_from _ rows (λ r has. it.contents (in
 
 pub world_stays : (t new : Tables) → IsRegistry t → Cleared t new → (world_of new ≡ world_of t) × IsRegistry new
 world_stays t new is it =
-    subst (λ (u : Tables). (world_of u ≡ world_of t) × IsRegistry u) (sym it.others) (contents_kept t new.contents is
+    subst (λ (u : Tables). (world_of u ≡ world_of t) × IsRegistry u) (sym it.others) (contents_kept t new.contents new.places is
     (column_stays t new 4 t.blobs it (λ i e. ap (λ b. b || (is_in_column 6 t.manifests i || is_in_column 5 t.pieces i)) e))
     (column_stays t new 6 t.manifests it (λ i e. ap (λ b. is_in_column 4 t.blobs i || (b || is_in_column 5 t.pieces i)) e ∙ or_turned (is_in_column 4 t.blobs i) true))
     (column_stays t new 5 t.pieces it (λ i e. ap (λ b. is_in_column 4 t.blobs i || (is_in_column 6 t.manifests i || b)) e ∙ ap (λ b. is_in_column 4 t.blobs i || b) (or_turned (is_in_column 6 t.manifests i) true) ∙ or_turned (is_in_column 4 t.blobs i) true)))
 
-pub makes_cleared : (old new : State) → IsSettled old → Commits new (held new) × Cleared (held old) (held new) → SettlesOn new (world_in old)
-makes_cleared old new settled it = makes new (held new) (world_in old) it.0 (world_stays (held old) (held new) (registry old settled) it.1)
+pub makes_cleared : (old new : State) → IsSettled InTables old → Commits InTables new (held InTables new) × Cleared (held InTables old) (held InTables new) → SettlesOn InTables new (world_in InTables old)
+makes_cleared old new settled it = makes new (held InTables new) (world_in InTables old) it.0 (world_stays (held InTables old) (held InTables new) (registry old settled) it.1)
 
 -- ---- one content after another
 
 pub record GoneSoFar (first now : State) (ids : List ContentId) : Type 0 where
-  pub gone : HasCleanDisk now → IsReady first → IsReady now × ContentsGone (held first) (held now) ids
-  pub kept : HasCleanDisk now → IsReady first → KeepsCommit first now
+  pub gone : HasCleanDisk now → IsReady InTables first → IsReady InTables now × ContentsGone (held InTables first) (held InTables now) ids
+  pub kept : HasCleanDisk now → IsReady InTables first → KeepsCommit first now
   pub survives : Survives first now (λ _. ⊥)
 
 pub so_far_none : (s : State) → GoneSoFar s s []
 so_far_none s = record {
-  gone = λ clean is. (is, none_gone (held s));
+  gone = λ clean is. (is, none_gone (held InTables s));
   kept = λ clean is. record { was_open = λ open_now. open_now; committed = λ open_now. refl };
   survives = record { clean = omega arith; shield = λ x. x; counts = omega arith; limit = refl; closes = λ clean open_now. inl open_now; crash = λ clean db may. inl may };
 }
 
 pub so_far_more : (first mid new : State) (ids : List ContentId) (at : ℕ) (d : ContentId) → at < length ids → GoneSoFar first mid (take at ids)
-    → (HasCleanDisk new → IsReady mid → IsReady new × ContentsGone (held mid) (held new) (get_or ids at d ∷ [])) → (HasCleanDisk new → IsReady mid → KeepsCommit mid new) → Survives mid new (λ _. ⊥) → GoneSoFar first new (take (at + 1) ids)
+    → (HasCleanDisk new → IsReady InTables mid → IsReady InTables new × ContentsGone (held InTables mid) (held InTables new) (get_or ids at d ∷ [])) → (HasCleanDisk new → IsReady InTables mid → KeepsCommit mid new) → Survives mid new (λ _. ⊥) → GoneSoFar first new (take (at + 1) ids)
 so_far_more first mid new ids at d low before taken kept survives = record {
   gone = λ clean ready.
       let it = before.gone (early clean) ready in
       let now = taken clean it.0 in
-      (now.0, gone_more (held first) (held mid) (held new) ids at d low it.1 now.1);
+      (now.0, gone_more (held InTables first) (held InTables mid) (held InTables new) ids at d low it.1 now.1);
   kept = λ clean ready. commit_then first mid new (before.kept (early clean) ready) (kept clean (before.gone (early clean) ready).0);
   survives = survives_both first mid new before.survives survives;
 }

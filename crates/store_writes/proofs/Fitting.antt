@@ -1,7 +1,7 @@
 -- Numbers that fit a column.
 use Rattle.std.proofs.Common.{◌≡◌, ◌∙◌, ◌<◌, ◌≤◌, ◌+◌, ◌^◌, ℕ, Bool, true, Fits, w64, sym, arith}
 use Rattle.std.specs.Prelude.{nat_lt}
-use Rattle.registry_model.specs.Limits.{largest_blob}
+use Rattle.registry_model.specs.Limits.{largest_blob, largest_manifest}
 use borrow.Author.Tests.{ltb-true}
 
 pub not_above : (n : ℕ) → n ≤ 9223372036854775807 → n < 2 ^ 63
@@ -27,3 +27,10 @@ next_fits n h = omega (arith, h)
 
 pub next_is_number : (n : ℕ) → n < 9223372036854775807 → Fits w64 (n + 1)
 next_is_number n h = record { fits = omega (arith, h) }
+
+-- there are some
+pub some_more : (n m : ℕ) → n ≡ m → (m ≡ 0 → ⊥) → 0 < n
+some_more n m same some = omega (arith, same, some)
+
+pub manifest_fits : (n : ℕ) → n ≤ largest_manifest → n < 2 ^ 63
+manifest_fits n h = omega (arith, h)

@@ -16,6 +16,7 @@ use Rattle.registry_model.specs.World.{World}
 use Rattle.registry_model.specs.Lookups.{blob_at, session_at, session_size_at, bytes_or_none, finish}
 use Rattle.registry_model.specs.Closing.{session_matches, finish_as_is}
 use Rattle.store_schema.specs.Rows.{natural_at, integer_at}
+use Rattle.store_contents.specs.Layouts.{Layout}
 use Rattle.store_statements.specs.Keys.{of_session, has_key}
 use Rattle.store_statements.specs.Tables.{Tables}
 use Rattle.store_statements.specs.World.{pieces_of, joined, world_of}
@@ -101,69 +102,70 @@ finished_from : (t u : Tables) (name : Text) (number : ℕ) (digest bytes : Text
 finished_from t u name number digest bytes link there size it =
     let ended = sessions_without (of_session name number) t in
     let same : u.contents ≡ t.contents = ap (λ (x : Tables). x.contents) it.others in
+    let placed : u.places ≡ t.places = ap (λ (x : Tables). x.places) it.others in
     record {
       id = link.content.id;
       grow = λ i b was. ap (λ c. c i) same ∙ was;
       there = ap (λ c. c link.content.id) same ∙ there;
       comes = subst (λ n. Comes ended.blobs u.blobs (blob_columns name digest n link.content.id)) size it.comes;
-      others = it.others ∙ ap (λ c. record ended { contents = c; blobs = u.blobs }) (sym same);
+      others = it.others ∙ (λ i. record ended { contents = sym same i; places = sym placed i; blobs = u.blobs });
     }
 
-pub ends_there : (old mid end : State) (name : Text) (number : ℕ) (digest : Text) (link other : BlobLink) → IsSettled old → IsKnown (held old) name number digest link → StaysSettled old mid → Some other ≡ option_map blob_link (find (has_key name digest) (held old).blobs)
-    → Commits end (sessions_without (of_session name number) (held mid)) → SettlesOn end (finish_as_is (world_in old) name number digest)
-ends_there old mid end name number digest link other settled known stays e c =
-    subst (SettlesOn end) (as_is (world_in old) name number digest known.bytes known.session) (finishes_there old mid end name number digest known.bytes other settled stays e c)
+pub ends_there : {l : Layout} → (old mid end : State) (name : Text) (number : ℕ) (digest : Text) (link other : BlobLink) → IsSettled l old → IsKnown (held l old) name number digest link → StaysSettled l old mid → Some other ≡ option_map blob_link (find (has_key name digest) (held l old).blobs)
+    → Commits l end (sessions_without (of_session name number) (held l mid)) → SettlesOn l end (finish_as_is (world_in l old) name number digest)
+ends_there {l} old mid end name number digest link other settled known stays e c =
+    subst (SettlesOn l end) (as_is (world_in l old) name number digest known.bytes known.session) (finishes_there old mid end name number digest known.bytes other settled stays e c)
 
-pub ends_new : (old mid end : State) (name : Text) (number : ℕ) (digest : Text) (link : BlobLink) → IsSettled old → IsKnown (held old) name number digest link → StaysSettled old mid → find (has_key name digest) (held old).blobs ≡ None
-    → Commits end (held end) × WholeEnds (held mid) (held end) name number digest link → SettlesOn end (finish_as_is (world_in old) name number digest)
-ends_new old mid end name number digest link settled known stays fresh it =
+pub ends_new : {l : Layout} → (old mid end : State) (name : Text) (number : ℕ) (digest : Text) (link : BlobLink) → IsSettled l old → IsKnown (held l old) name number digest link → StaysSettled l old mid → find (has_key name digest) (held l old).blobs ≡ None
+    → Commits l end (held l end) × WholeEnds (held l mid) (held l end) name number digest link → SettlesOn l end (finish_as_is (world_in l old) name number digest)
+ends_new {l} old mid end name number digest link settled known stays fresh it =
     let there = ap (λ (t : Tables). t.contents link.content.id) (same_held old mid stays) ∙ known.there in
-    subst (SettlesOn end) (as_is (world_in old) name number digest known.bytes known.session)
-    (finishes_new old mid end name number digest known.bytes settled (ap is_some known.session) stays fresh (it.0, finished_from (held mid) (held end) name number digest known.bytes link there known.size it.1))
+    subst (SettlesOn l end) (as_is (world_in l old) name number digest known.bytes known.session)
+    (finishes_new old mid end name number digest known.bytes settled (ap is_some known.session) stays fresh (it.0, finished_from (held l mid) (held l end) name number digest known.bytes link there known.size it.1))
 
 -- the whole of it
-pub done : (old mid new : State) (name : Text) (number : ℕ) (digest : Text) (link : BlobLink) → IsSettled old → StaysSettled old mid → Some link ≡ known_link (held old) name number digest → SettlesOn new (finish_as_is (world_in mid) name number digest)
-    → DoneWhereSo true old new (λ w. session_matches w name number digest) (λ w. finish_as_is w name number digest)
-done old mid new name number digest link settled stays found it =
-    let known = known_is (held old) name number (registry old settled) digest link found in
-    (matches_it (world_in old) name number digest known.bytes known.session known.matching, subst (λ w. SettlesOn new (finish_as_is w name number digest)) (same_world old mid stays) it)
+pub done : {l : Layout} → (old mid new : State) (name : Text) (number : ℕ) (digest : Text) (link : BlobLink) → IsSettled l old → StaysSettled l old mid → Some link ≡ known_link (held l old) name number digest → SettlesOn l new (finish_as_is (world_in l mid) name number digest)
+    → DoneWhereSo l true old new (λ w. session_matches w name number digest) (λ w. finish_as_is w name number digest)
+done {l} old mid new name number digest link settled stays found it =
+    let known = known_is (held l old) name number (registry old settled) digest link found in
+    (matches_it (world_in l old) name number digest known.bytes known.session known.matching, subst (λ w. SettlesOn l new (finish_as_is w name number digest)) (same_world old mid stays) it)
 
 -- what a crash leaves of it
-module _ {S : Type 0} (g : Ghosts S) (old new : Held S) (name : Text) (number : ℕ) (digest : Text) where
+module _ (l : Layout) {S : Type 0} (g : Ghosts S) (old new : Held S) (name : Text) (number : ℕ) (digest : Text) where
   -- the bytes match, and the world is that of the session's end
   abbrev pub Ended : State → Type 0
-  Ended s = (session_matches (world_in (state g old)) name number digest ≡ true) × SettlesOn s (finish_as_is (world_in (state g old)) name number digest)
+  Ended s = (session_matches (world_in l (state g old)) name number digest ≡ true) × SettlesOn l s (finish_as_is (world_in l (state g old)) name number digest)
 
-  pub ends_kept : IsSettled (state g old) → IsKept (state g old) (state g new) → Outcomes (state g old).now (state g new) (λ s. SettlesOn s (world_in (state g old))) (λ s. SettlesOn s (world_in (state g old))) Ended
-  ends_kept is kept = outcome_kept (state g old) (state g new) (λ s. SettlesOn s (world_in (state g old))) Ended is kept (λ s again. again)
+  pub ends_kept : IsSettled l (state g old) → IsKept (state g old) (state g new) → Outcomes (state g old).now (state g new) (λ s. SettlesOn l s (world_in l (state g old))) (λ s. SettlesOn l s (world_in l (state g old))) Ended
+  ends_kept is kept = outcome_kept (state g old) (state g new) (λ s. SettlesOn l s (world_in l (state g old))) Ended is kept (λ s again. again)
 
-  pub ends_failed : IsSettled (state g old) → IsKept (state g old) (state g new) → Outcomes (state g old).now (state g new) (λ _. ⊤) (λ s. SettlesOn s (world_in (state g old))) Ended
+  pub ends_failed : IsSettled l (state g old) → IsKept (state g old) (state g new) → Outcomes (state g old).now (state g new) (λ _. ⊤) (λ s. SettlesOn l s (world_in l (state g old))) Ended
   ends_failed is kept = outcome_kept (state g old) (state g new) (λ _. ⊤) Ended is kept (λ s again. tt)
 
-  module _ (mid : Held S) (link : BlobLink) (settled : IsSettled (state g old)) (stays : StaysSettled (state g old) (state g mid)) (found : Some link ≡ known_link (held (state g old)) name number digest) where
-    ends_left : (Told Told' : State → Type 0) → ((s : State) → Told s → Told' s) → Outcomes (state g mid).now (state g new) Told (λ s. SettlesOn s (world_in (state g mid))) (λ s. SettlesOn s (finish_as_is (world_in (state g mid)) name number digest))
-        → Outcomes (state g old).now (state g new) Told' (λ s. SettlesOn s (world_in (state g old))) Ended
+  module _ (mid : Held S) (link : BlobLink) (settled : IsSettled l (state g old)) (stays : StaysSettled l (state g old) (state g mid)) (found : Some link ≡ known_link (held l (state g old)) name number digest) where
+    ends_left : (Told Told' : State → Type 0) → ((s : State) → Told s → Told' s) → Outcomes (state g mid).now (state g new) Told (λ s. SettlesOn l s (world_in l (state g mid))) (λ s. SettlesOn l s (finish_as_is (world_in l (state g mid)) name number digest))
+        → Outcomes (state g old).now (state g new) Told' (λ s. SettlesOn l s (world_in l (state g old))) Ended
     ends_left Told Told' told crash db may =
-        let known = known_is (held (state g old)) name number (registry (state g old) settled) digest link found in
-        let so = matches_it (world_in (state g old)) name number digest known.bytes known.session known.matching in
+        let known = known_is (held l (state g old)) name number (registry (state g old) settled) digest link found in
+        let so = matches_it (world_in l (state g old)) name number digest known.bytes known.session known.matching in
         let out = outcome_then (state g old) (state g mid) (state g new) (λ w. finish_as_is w name number digest) Told Told' stays told crash db may in
         (out.0, elim out.1 [ inl same ↦ inl same | inr it ↦ inr (so, it) ])
 
-    pub ends_done : Outcomes (state g mid).now (state g new) (λ s. SettlesOn s (finish_as_is (world_in (state g mid)) name number digest)) (λ s. SettlesOn s (world_in (state g mid))) (λ s. SettlesOn s (finish_as_is (world_in (state g mid)) name number digest))
-        → Outcomes (state g old).now (state g new) (λ s. SettlesOn s (finish_as_is (world_in (state g old)) name number digest)) (λ s. SettlesOn s (world_in (state g old))) Ended
+    pub ends_done : Outcomes (state g mid).now (state g new) (λ s. SettlesOn l s (finish_as_is (world_in l (state g mid)) name number digest)) (λ s. SettlesOn l s (world_in l (state g mid))) (λ s. SettlesOn l s (finish_as_is (world_in l (state g mid)) name number digest))
+        → Outcomes (state g old).now (state g new) (λ s. SettlesOn l s (finish_as_is (world_in l (state g old)) name number digest)) (λ s. SettlesOn l s (world_in l (state g old))) Ended
     ends_done crash =
-        ends_left (λ s. SettlesOn s (finish_as_is (world_in (state g mid)) name number digest)) (λ s. SettlesOn s (finish_as_is (world_in (state g old)) name number digest))
-        (λ s it. subst (λ (w : World). SettlesOn s (finish_as_is w name number digest)) (same_world (state g old) (state g mid) stays) it) crash
+        ends_left (λ s. SettlesOn l s (finish_as_is (world_in l (state g mid)) name number digest)) (λ s. SettlesOn l s (finish_as_is (world_in l (state g old)) name number digest))
+        (λ s it. subst (λ (w : World). SettlesOn l s (finish_as_is w name number digest)) (same_world (state g old) (state g mid) stays) it) crash
 
-    pub ends_undone : Outcomes (state g mid).now (state g new) (λ _. ⊤) (λ s. SettlesOn s (world_in (state g mid))) (λ s. SettlesOn s (finish_as_is (world_in (state g mid)) name number digest))
-        → Outcomes (state g old).now (state g new) (λ _. ⊤) (λ s. SettlesOn s (world_in (state g old))) Ended
+    pub ends_undone : Outcomes (state g mid).now (state g new) (λ _. ⊤) (λ s. SettlesOn l s (world_in l (state g mid))) (λ s. SettlesOn l s (finish_as_is (world_in l (state g mid)) name number digest))
+        → Outcomes (state g old).now (state g new) (λ _. ⊤) (λ s. SettlesOn l s (world_in l (state g old))) Ended
     ends_undone crash = ends_left (λ _. ⊤) (λ _. ⊤) (λ s it. tt) crash
 
 -- and what it tells
-pub end_told : (old mid : State) (name : Text) (number : ℕ) (digest : Text) (link : BlobLink) (came : Bool) → IsSettled old → StaysSettled old mid → Some link ≡ known_link (held old) name number digest → came ≡ is_none (blob_at (world_in mid) name digest)
-    → (session_size_at (world_in old) name number ≡ Some link.size) × (came ≡ is_none (blob_at (world_in old) name digest))
-end_told old mid name number digest link came settled stays found told =
-    let known = known_is (held old) name number (registry old settled) digest link found in
+pub end_told : {l : Layout} → (old mid : State) (name : Text) (number : ℕ) (digest : Text) (link : BlobLink) (came : Bool) → IsSettled l old → StaysSettled l old mid → Some link ≡ known_link (held l old) name number digest → came ≡ is_none (blob_at (world_in l mid) name digest)
+    → (session_size_at (world_in l old) name number ≡ Some link.size) × (came ≡ is_none (blob_at (world_in l old) name digest))
+end_told {l} old mid name number digest link came settled stays found told =
+    let known = known_is (held l old) name number (registry old settled) digest link found in
     (ap (option_map length) known.session ∙ ap Some (sym known.size), told ∙ ap (λ w. is_none (blob_at w name digest)) (same_world old mid stays))
 
 -- ---- an answer to a change that was made
@@ -192,10 +194,10 @@ came_memory {A = A} (Err fault) came r is e = same (sym is ∙ e)
 
 -- ---- a step of the tables, and then one that is said of them
 
-pub ended_if : {A E : Type 0} (t : Tables) (mid new : State) (name : Text) (number : ℕ) (digest : Text) (link : BlobLink) (r : Result A E) → held mid ≡ sessions_without (of_session name number) t → OnOk r (BlobComes mid new (blob_columns name digest link.size link.content.id))
-    → OnOk r (IsReady new × WholeEnds t (held new) name number digest link)
-ended_if t mid new name number digest link (Ok x) e h = (h.ready, subst (λ (s : Tables). LinkIsPut s (held new) name digest link.size link.content.id) e (link_came mid new name digest link.size link.content.id h))
-ended_if t mid new name number digest link (Err x) e h = tt
+pub ended_if : (l : Layout) → {A E : Type 0} (t : Tables) (mid new : State) (name : Text) (number : ℕ) (digest : Text) (link : BlobLink) (r : Result A E) → held l mid ≡ sessions_without (of_session name number) t → OnOk r (BlobComes l mid new (blob_columns name digest link.size link.content.id))
+    → OnOk r (IsReady l new × WholeEnds t (held l new) name number digest link)
+ended_if l t mid new name number digest link (Ok x) e h = (h.ready, subst (λ (s : Tables). LinkIsPut s (held l new) name digest link.size link.content.id) e (link_came mid new name digest link.size link.content.id h))
+ended_if l t mid new name number digest link (Err x) e h = tt
 
 -- ---- what was read, of tables that stay
 
@@ -203,22 +205,22 @@ ended_if t mid new name number digest link (Err x) e h = tt
 abbrev pub Found : Type 0
 Found = Result (Option BlobLink) Fault
 
-module _ (old mid : State) (stays : StaysSettled old mid) (name : Text) (number : ℕ) where
-  pub whole_found : (size : ℕ) (r : Found) → Some size ≡ option_map (λ r. natural_at r 3) (find (of_session name number) (held old).uploads)
-      → IfOk r (λ o. o ≡ only_link size (map (content_named 5) (pieces_of (held mid).pieces name number))) → IfOk r (λ o. o ≡ whole_link (held old) name number)
+module _ {l : Layout} (old mid : State) (stays : StaysSettled l old mid) (name : Text) (number : ℕ) where
+  pub whole_found : (size : ℕ) (r : Found) → Some size ≡ option_map (λ r. natural_at r 3) (find (of_session name number) (held l old).uploads)
+      → IfOk r (λ o. o ≡ only_link size (map (content_named 5) (pieces_of (held l mid).pieces name number))) → IfOk r (λ o. o ≡ whole_link (held l old) name number)
   whole_found size (Err e) sized h = tt
   whole_found size (Ok o) sized h =
-      let found = some_found (λ r. natural_at r 3) (find (of_session name number) (held old).uploads) size sized in
-      let link : ℕ → Option BlobLink = λ n. only_link n (map (content_named 5) (pieces_of (held old).pieces name number)) in
+      let found = some_found (λ r. natural_at r 3) (find (of_session name number) (held l old).uploads) size sized in
+      let link : ℕ → Option BlobLink = λ n. only_link n (map (content_named 5) (pieces_of (held l old).pieces name number)) in
       h ∙ ap (λ (t : Tables). only_link size (map (content_named 5) (pieces_of t.pieces name number))) (same_held old mid stays) ∙ ap link found.2
       ∙ sym (ap (λ x. option_and_then (λ r. link (natural_at r 3)) x) found.1)
 
-  pub known_found : (digest : Text) (link : BlobLink) (r : Found) → Some link ≡ whole_link (held old) name number → IfOk r (λ o. o ≡ if_digest (held mid) digest link) → IfOk r (λ o. o ≡ known_link (held old) name number digest)
+  pub known_found : (digest : Text) (link : BlobLink) (r : Found) → Some link ≡ whole_link (held l old) name number → IfOk r (λ o. o ≡ if_digest (held l mid) digest link) → IfOk r (λ o. o ≡ known_link (held l old) name number digest)
   known_found digest link (Err e) found h = tt
-  known_found digest link (Ok o) found h = h ∙ ap (λ (t : Tables). if_digest t digest link) (same_held old mid stays) ∙ ap (λ x. option_and_then (λ l. if_digest (held old) digest l) x) found
+  known_found digest link (Ok o) found h = h ∙ ap (λ (t : Tables). if_digest t digest link) (same_held old mid stays) ∙ ap (λ x. option_and_then (λ k. if_digest (held l old) digest k) x) found
 
   -- it is still known
-  pub still_known : (digest : Text) (link : BlobLink) → Some link ≡ known_link (held old) name number digest → Some link ≡ known_link (held mid) name number digest
+  pub still_known : (digest : Text) (link : BlobLink) → Some link ≡ known_link (held l old) name number digest → Some link ≡ known_link (held l mid) name number digest
   still_known digest link found = found ∙ sym (ap (λ (t : Tables). known_link t name number digest) (same_held old mid stays))
 
 pub no_whole : (t : Tables) (name : Text) (number : ℕ) → None ≡ option_map (λ r. natural_at r 3) (find (of_session name number) t.uploads) → None ≡ whole_link t name number

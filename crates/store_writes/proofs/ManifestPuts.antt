@@ -12,6 +12,7 @@ use Rattle.registry_model.specs.Lookups.{put_manifest}
 use Rattle.registry_model.specs.Manifests.{kind_in, kind_or_image, with_bytes, with_tag}
 use Rattle.registry_model.specs.Referrers.{subject_or_none}
 use Rattle.registry_model.specs.World.{World, has_repo}
+use Rattle.store_contents.specs.Layouts.{Layout}
 use Rattle.store_statements.specs.Keys.{has_key}
 use Rattle.store_statements.specs.Tables.{Tables}
 use Rattle.store_statements.specs.Registry.{is_repo, Agree, IsRegistry}
@@ -29,72 +30,73 @@ use Rattle.store_statements.specs.Steps.{tags_changed, TagComes, ManifestComes, 
 use Rattle.store_writes.specs.Worlds.{IsWhole, Turns, tagged}
 use Rattle.store_writes.proofs.RowCounts.{none_changed}
 
-pub registry_inside : (s : State) → IsWhole s → IsRegistry (held s)
-registry_inside s is = record { tables = is.ready.holds.tables; agree = is.agree }
+pub registry_inside : {l : Layout} → (s : State) → IsWhole l s → IsRegistry (held l s)
+registry_inside {l} s is = record { tables = is.ready.holds.tables; agree = is.agree }
 
-turned : (old new : State) (t : Tables) (w : World) → IsReady new → held new ≡ t → t.repos ≡ (held old).repos → t.beside ≡ (held old).beside → Grow (held old).contents t.contents → (world_of t ≡ w) × IsRegistry t → Turns old new w
-turned old new t w ready same repos beside grow it = record {
+turned : {l : Layout} → (old new : State) (t : Tables) (w : World) → IsReady l new → held l new ≡ t → t.repos ≡ (held l old).repos → t.beside ≡ (held l old).beside → Grow (held l old).contents t.contents → (world_of t ≡ w) × IsRegistry t → Turns l old new w
+turned {l} old new t w ready same repos beside grow it = record {
   whole = record { ready = ready; agree = subst Agree (sym same) it.1.agree };
   world = ap world_of same ∙ it.0;
   repos = ap (λ (x : Tables). x.repos) same ∙ repos;
   beside = ap (λ (x : Tables). x.beside) same ∙ beside;
-  grow = subst (λ (x : Tables). Grow (held old).contents x.contents) (sym same) grow;
+  grow = subst (λ (x : Tables). Grow (held l old).contents x.contents) (sym same) grow;
 }
 
 -- ---- the tag
 
-pub tag_was_set : (old new : State) (repo tag digest : List ℕ) → IsWhole old → is_some (find (has_key repo tag) (held old).tags) ≡ true → Becomes new (tags_changed (has_key repo tag) (with_digest digest) (held old))
-    → Turns old new (tagged (world_of (held old)) repo (Some tag) digest)
-tag_was_set old new repo tag digest is there became =
-    let found = some_is (find (has_key repo tag) (held old).tags) there in
-    turned old new (tags_changed (has_key repo tag) (with_digest digest) (held old)) _ became.0 became.1 refl refl (λ id bytes e. e) (tag_set (held old) repo tag digest found.0 (registry_inside old is) found.1)
+pub tag_was_set : {l : Layout} → (old new : State) (repo tag digest : List ℕ) → IsWhole l old → is_some (find (has_key repo tag) (held l old).tags) ≡ true → Becomes l new (tags_changed (has_key repo tag) (with_digest digest) (held l old))
+    → Turns l old new (tagged (world_of (held l old)) repo (Some tag) digest)
+tag_was_set {l} old new repo tag digest is there became =
+    let found = some_is (find (has_key repo tag) (held l old).tags) there in
+    turned old new (tags_changed (has_key repo tag) (with_digest digest) (held l old)) _ became.0 became.1 refl refl (λ id bytes e. e) (tag_set (held l old) repo tag digest found.0 (registry_inside old is) found.1)
 
 -- none was set
-set_none : (a b : State) (repo tag digest : List ℕ) → find (has_key repo tag) (held a).tags ≡ None → Becomes b (tags_changed (has_key repo tag) (with_digest digest) (held a)) → held b ≡ held a
-set_none a b repo tag digest none became = became.1 ∙ (λ i. record (held a) { tags = none_changed (has_key repo tag) (with_digest digest) (held a).tags none i })
+set_none : {l : Layout} → (a b : State) (repo tag digest : List ℕ) → find (has_key repo tag) (held l a).tags ≡ None → Becomes l b (tags_changed (has_key repo tag) (with_digest digest) (held l a)) → held l b ≡ held l a
+set_none {l} a b repo tag digest none became = became.1 ∙ (λ i. record (held l a) { tags = none_changed (has_key repo tag) (with_digest digest) (held l a).tags none i })
 
-pub fresh_tag : (a b : State) (repo tag digest : List ℕ) → find (has_key repo tag) (held a).tags ≡ None → Becomes b (tags_changed (has_key repo tag) (with_digest digest) (held a)) → find (has_key repo tag) (held b).tags ≡ None
-fresh_tag a b repo tag digest none became = ap (λ (t : Tables). find (has_key repo tag) t.tags) (set_none a b repo tag digest none became) ∙ none
+pub fresh_tag : {l : Layout} → (a b : State) (repo tag digest : List ℕ) → find (has_key repo tag) (held l a).tags ≡ None → Becomes l b (tags_changed (has_key repo tag) (with_digest digest) (held l a)) → find (has_key repo tag) (held l b).tags ≡ None
+fresh_tag {l} a b repo tag digest none became = ap (λ (t : Tables). find (has_key repo tag) t.tags) (set_none a b repo tag digest none became) ∙ none
 
-pub tag_came : (old mid new : State) (repo tag digest : List ℕ) → IsWhole old → is_repo (held old).repos repo ≡ true → find (has_key repo tag) (held old).tags ≡ None → Becomes mid (tags_changed (has_key repo tag) (with_digest digest) (held old))
-    → TagComes mid new (tag_columns repo tag digest) → Turns old new (tagged (world_of (held old)) repo (Some tag) digest)
-tag_came old mid new repo tag digest is there none became came =
+pub tag_came : {l : Layout} → (old mid new : State) (repo tag digest : List ℕ) → IsWhole l old → is_repo (held l old).repos repo ≡ true → find (has_key repo tag) (held l old).tags ≡ None → Becomes l mid (tags_changed (has_key repo tag) (with_digest digest) (held l old))
+    → TagComes l mid new (tag_columns repo tag digest) → Turns l old new (tagged (world_of (held l old)) repo (Some tag) digest)
+tag_came {l} old mid new repo tag digest is there none became came =
     let same = set_none old mid repo tag digest none became in
-    let comes : Comes (held old).tags (held new).tags (tag_columns repo tag digest) = subst (λ (t : Tables). Comes t.tags (held new).tags (tag_columns repo tag digest)) same came.comes in
-    let others : held new ≡ record (held old) { tags = (held new).tags } = subst (λ (t : Tables). held new ≡ record t { tags = (held new).tags }) same came.others in
-    turned old new (record (held old) { tags = (held new).tags }) _ came.ready others refl refl (λ id bytes e. e) (tag_added (held old) repo tag digest (held new).tags (registry_inside old is) there none comes)
+    let comes : Comes (held l old).tags (held l new).tags (tag_columns repo tag digest) = subst (λ (t : Tables). Comes t.tags (held l new).tags (tag_columns repo tag digest)) same came.comes in
+    let others : held l new ≡ record (held l old) { tags = (held l new).tags } = subst (λ (t : Tables). held l new ≡ record t { tags = (held l new).tags }) same came.others in
+    turned old new (record (held l old) { tags = (held l new).tags }) _ came.ready others refl refl (λ id bytes e. e) (tag_added (held l old) repo tag digest (held l new).tags (registry_inside old is) there none comes)
 
 -- no tag is given
-pub no_tag : (old : State) (repo digest : List ℕ) → IsWhole old → Turns old old (tagged (world_of (held old)) repo None digest)
-no_tag old repo digest is = record { whole = is; world = sym (update_same (held old) repo (λ r. r) (λ r e. refl)); repos = refl; beside = refl; grow = λ id bytes e. e }
+pub no_tag : {l : Layout} → (old : State) (repo digest : List ℕ) → IsWhole l old → Turns l old old (tagged (world_of (held l old)) repo None digest)
+no_tag {l} old repo digest is = record { whole = is; world = sym (update_same (held l old) repo (λ r. r) (λ r e. refl)); repos = refl; beside = refl; grow = λ id bytes e. e }
 
 -- ---- the manifest
 
-pub fresh_manifest : (old mid : State) (id : ℤ) (repo digest bytes : List ℕ) → ContentKept (held old) (held mid) id bytes → find (has_key repo digest) (held old).manifests ≡ None → find (has_key repo digest) (held mid).manifests ≡ None
-fresh_manifest old mid id repo digest bytes c none = ap (λ (t : Tables). find (has_key repo digest) t.manifests) c.others ∙ none
+pub fresh_manifest : (l : Layout) → (old mid : State) (id : ℤ) (repo digest bytes : List ℕ) → ContentKept (held l old) (held l mid) id bytes → find (has_key repo digest) (held l old).manifests ≡ None → find (has_key repo digest) (held l mid).manifests ≡ None
+fresh_manifest l old mid id repo digest bytes c none = ap (λ (t : Tables). find (has_key repo digest) t.manifests) c.others ∙ none
 
-pub manifest_came : (old mid new : State) (id : ℤ) (repo digest bytes : List ℕ) → IsWhole old → is_repo (held old).repos repo ≡ true → find (has_key repo digest) (held old).manifests ≡ None → ContentKept (held old) (held mid) id bytes
+pub manifest_came : {l : Layout} → (old mid new : State) (id : ℤ) (repo digest bytes : List ℕ) → IsWhole l old → is_repo (held l old).repos repo ≡ true → find (has_key repo digest) (held l old).manifests ≡ None → ContentKept (held l old) (held l mid) id bytes
     → (m : ManifestShown) → manifest_in bytes ≡ Ok m → (subject : Option Text) → subject ≡ m.subject
-    → ManifestComes mid new (manifest_columns repo digest (length bytes) m.kind subject id) → Turns old new (put_manifest (world_of (held old)) repo digest bytes None)
-manifest_came old mid new id repo digest bytes is there none c m reads subject refers link =
+    → ManifestComes l mid new (manifest_columns repo digest (length bytes) m.kind subject id) → Turns l old new (put_manifest (world_of (held l old)) repo digest bytes None)
+manifest_came {l} old mid new id repo digest bytes is there none c m reads subject refers link =
     let columns = manifest_columns repo digest (length bytes) (kind_in bytes) (subject_or_none (manifest_in bytes)) id in
-    let came : ManifestComes mid new columns = subst (ManifestComes mid new) (λ i. manifest_columns repo digest (length bytes) (sym (ap kind_or_image reads) i) ((refers ∙ sym (ap subject_or_none reads)) i) id) link in
-    let contents = (held mid).contents in
-    let comes : Comes (held old).manifests (held new).manifests columns = subst (λ (t : Tables). Comes t.manifests (held new).manifests columns) c.others came.comes in
-    let others : held new ≡ record (held old) { contents = contents; manifests = (held new).manifests } = subst (λ (t : Tables). held new ≡ record t { manifests = (held new).manifests }) c.others came.others in
-    turned old new (record (held old) { contents = contents; manifests = (held new).manifests }) _ came.ready others refl refl c.grow
-    (manifest_stored (held old) contents repo digest bytes id (held new).manifests (registry_inside old is) there c.grow c.there none comes)
+    let came : ManifestComes l mid new columns = subst (ManifestComes l mid new) (λ i. manifest_columns repo digest (length bytes) (sym (ap kind_or_image reads) i) ((refers ∙ sym (ap subject_or_none reads)) i) id) link in
+    let contents = (held l mid).contents in
+    let places = (held l mid).places in
+    let comes : Comes (held l old).manifests (held l new).manifests columns = subst (λ (t : Tables). Comes t.manifests (held l new).manifests columns) c.others came.comes in
+    let others : held l new ≡ record (held l old) { contents = contents; places = places; manifests = (held l new).manifests } = subst (λ (t : Tables). held l new ≡ record t { manifests = (held l new).manifests }) c.others came.others in
+    turned old new (record (held l old) { contents = contents; places = places; manifests = (held l new).manifests }) _ came.ready others refl refl c.grow
+    (manifest_stored (held l old) contents places repo digest bytes id (held l new).manifests (registry_inside old is) there c.grow c.there none comes)
 
 -- ---- both
 
 put_tagged : (w : World) (repo digest bytes : List ℕ) (tag : Option Text) → tagged (put_manifest w repo digest bytes None) repo tag digest ≡ put_manifest w repo digest bytes tag
 put_tagged w repo digest bytes tag = update_twice w repo (λ r. with_bytes r digest bytes) (λ r. with_tag r tag digest)
 
-pub tagged_put : (old mid new : State) (repo digest bytes : List ℕ) (tag : Option Text) → Turns old mid (put_manifest (world_of (held old)) repo digest bytes None) → Turns mid new (tagged (world_of (held mid)) repo tag digest)
-    → Turns old new (put_manifest (world_of (held old)) repo digest bytes tag)
-tagged_put old mid new repo digest bytes tag first second = record {
+pub tagged_put : {l : Layout} → (old mid new : State) (repo digest bytes : List ℕ) (tag : Option Text) → Turns l old mid (put_manifest (world_of (held l old)) repo digest bytes None) → Turns l mid new (tagged (world_of (held l mid)) repo tag digest)
+    → Turns l old new (put_manifest (world_of (held l old)) repo digest bytes tag)
+tagged_put {l} old mid new repo digest bytes tag first second = record {
   whole = second.whole;
-  world = second.world ∙ ap (λ w. tagged w repo tag digest) first.world ∙ put_tagged (world_of (held old)) repo digest bytes tag;
+  world = second.world ∙ ap (λ w. tagged w repo tag digest) first.world ∙ put_tagged (world_of (held l old)) repo digest bytes tag;
   repos = second.repos ∙ first.repos;
   beside = second.beside ∙ first.beside;
   grow = λ id bytes e. second.grow id bytes (first.grow id bytes e);
@@ -118,20 +120,20 @@ pub found_some : {X : Type 0} (f : Row → X) (x : X) (o : Option Row) → Some 
 found_some f x None e = absurd cc
 found_some f x (Some r) e = refl
 
-pub repo_there : (old mid : State) (repo : List ℕ) → mid.now ≡ old.now → has_repo (world_of (held old)) repo ≡ true → is_repo (held mid).repos repo ≡ true
-repo_there old mid repo same has = ap (λ (d : Database). is_repo (tables_in d).repos repo) same ∙ sym (has_repo_found (held old) repo) ∙ has
+pub repo_there : (l : Layout) → (old mid : State) (repo : List ℕ) → mid.now ≡ old.now → has_repo (world_of (held l old)) repo ≡ true → is_repo (held l mid).repos repo ≡ true
+repo_there l old mid repo same has = ap (λ (d : Database). is_repo (tables_in l d).repos repo) same ∙ sym (has_repo_found (held l old) repo) ∙ has
 
-pub fresh_still : (old mid : State) (repo digest : List ℕ) → mid.now ≡ old.now → find (has_key repo digest) (held old).manifests ≡ None → find (has_key repo digest) (held mid).manifests ≡ None
-fresh_still old mid repo digest same none = ap (λ (d : Database). find (has_key repo digest) (tables_in d).manifests) same ∙ none
+pub fresh_still : (l : Layout) → (old mid : State) (repo digest : List ℕ) → mid.now ≡ old.now → find (has_key repo digest) (held l old).manifests ≡ None → find (has_key repo digest) (held l mid).manifests ≡ None
+fresh_still l old mid repo digest same none = ap (λ (d : Database). find (has_key repo digest) (tables_in l d).manifests) same ∙ none
 
-pub made_there : (old mid new : State) (repo digest bytes : List ℕ) (tag : Option Text) → mid.now ≡ old.now → is_some (find (has_key repo digest) (held old).manifests) ≡ true
-    → SettlesOn new (tagged (world_of (held mid)) repo tag digest) → SettlesOn new (put_manifest (world_of (held old)) repo digest bytes tag)
-made_there old mid new repo digest bytes tag same some m =
-    let found = some_is (find (has_key repo digest) (held old).manifests) some in
-    (m.0, m.1 ∙ ap (λ (d : Database). tagged (world_of (tables_in d)) repo tag digest) same ∙ tagged_there (held old) repo digest bytes tag found.0 found.1)
+pub made_there : {l : Layout} → (old mid new : State) (repo digest bytes : List ℕ) (tag : Option Text) → mid.now ≡ old.now → is_some (find (has_key repo digest) (held l old).manifests) ≡ true
+    → SettlesOn l new (tagged (world_of (held l mid)) repo tag digest) → SettlesOn l new (put_manifest (world_of (held l old)) repo digest bytes tag)
+made_there {l} old mid new repo digest bytes tag same some m =
+    let found = some_is (find (has_key repo digest) (held l old).manifests) some in
+    (m.0, m.1 ∙ ap (λ (d : Database). tagged (world_of (tables_in l d)) repo tag digest) same ∙ tagged_there (held l old) repo digest bytes tag found.0 found.1)
 
-pub made_new : (old mid new : State) (repo digest bytes : List ℕ) (tag : Option Text) → mid.now ≡ old.now → SettlesOn new (put_manifest (world_of (held mid)) repo digest bytes tag) → SettlesOn new (put_manifest (world_of (held old)) repo digest bytes tag)
-made_new old mid new repo digest bytes tag same m = (m.0, m.1 ∙ ap (λ (d : Database). put_manifest (world_of (tables_in d)) repo digest bytes tag) same)
+pub made_new : {l : Layout} → (old mid new : State) (repo digest bytes : List ℕ) (tag : Option Text) → mid.now ≡ old.now → SettlesOn l new (put_manifest (world_of (held l mid)) repo digest bytes tag) → SettlesOn l new (put_manifest (world_of (held l old)) repo digest bytes tag)
+made_new {l} old mid new repo digest bytes tag same m = (m.0, m.1 ∙ ap (λ (d : Database). put_manifest (world_of (tables_in l d)) repo digest bytes tag) same)
 
 pub memory_unspent : (A B : Type 0) (f : Fault) (r : Result A Fault) → r ≡ Err f → r ≡ Err Memory → is_storage {A = B} (Err f) ≡ false
 memory_unspent A B Memory r e h = refl

@@ -7,6 +7,7 @@ use Rattle.registry_model.specs.declared.level.Level.{Level}
 use Rattle.registry_model.specs.Command.{grant, set_repo}
 use Rattle.registry_model.specs.Lookups.{mount}
 use Rattle.store_schema.specs.Rows.{natural_at, integer_at}
+use Rattle.store_contents.specs.Layouts.{Layout}
 use Rattle.store_statements.specs.Keys.{has_key, of_first}
 use Rattle.store_statements.specs.Tables.{Tables}
 use Rattle.store_statements.specs.World.{world_of}
@@ -28,38 +29,38 @@ pub then_ok : {A E P Q : Type 0} (r : Result A E) → (P → Q) → OnOk r P →
 then_ok (Ok x) f p = f p
 then_ok (Err e) f p = p
 
-set_none : (a b : State) (token name : List ℕ) (level : Level) → find (has_key token name) (held a).grants ≡ None → Becomes b (grants_changed (has_key token name) (with_level level) (held a)) → held b ≡ held a
-set_none a b token name level none became = became.1 ∙ (λ i. record (held a) { grants = none_changed (has_key token name) (with_level level) (held a).grants none i })
+set_none : {l : Layout} → (a b : State) (token name : List ℕ) (level : Level) → find (has_key token name) (held l a).grants ≡ None → Becomes l b (grants_changed (has_key token name) (with_level level) (held l a)) → held l b ≡ held l a
+set_none {l} a b token name level none became = became.1 ∙ (λ i. record (held l a) { grants = none_changed (has_key token name) (with_level level) (held l a).grants none i })
 
-pub fresh_level : (a b : State) (token name : List ℕ) (level : Level) → find (has_key token name) (held a).grants ≡ None → Becomes b (grants_changed (has_key token name) (with_level level) (held a)) → find (has_key token name) (held b).grants ≡ None
-fresh_level a b token name level none became = ap (λ (t : Tables). find (has_key token name) t.grants) (set_none a b token name level none became) ∙ none
+pub fresh_level : {l : Layout} → (a b : State) (token name : List ℕ) (level : Level) → find (has_key token name) (held l a).grants ≡ None → Becomes l b (grants_changed (has_key token name) (with_level level) (held l a)) → find (has_key token name) (held l b).grants ≡ None
+fresh_level {l} a b token name level none became = ap (λ (t : Tables). find (has_key token name) t.grants) (set_none a b token name level none became) ∙ none
 
-pub level_came : (a b c : State) (token name : List ℕ) (level : Level) → find (has_key token name) (held a).grants ≡ None → Becomes b (grants_changed (has_key token name) (with_level level) (held a)) → GrantComes b c (grant_columns token name level)
-    → LevelIsPut (held a) (held c) token name level
-level_came a b c token name level none became came =
+pub level_came : {l : Layout} → (a b c : State) (token name : List ℕ) (level : Level) → find (has_key token name) (held l a).grants ≡ None → Becomes l b (grants_changed (has_key token name) (with_level level) (held l a)) → GrantComes l b c (grant_columns token name level)
+    → LevelIsPut (held l a) (held l c) token name level
+level_came {l} a b c token name level none became came =
     let same = set_none a b token name level none became in record {
-      put = inr (none, subst (λ (t : Tables). Comes t.grants (held c).grants (grant_columns token name level)) same came.comes);
-      others = subst (λ (t : Tables). held c ≡ record t { grants = (held c).grants }) same came.others;
+      put = inr (none, subst (λ (t : Tables). Comes t.grants (held l c).grants (grant_columns token name level)) same came.comes);
+      others = subst (λ (t : Tables). held l c ≡ record t { grants = (held l c).grants }) same came.others;
     }
 
-pub level_was_set : (a b : State) (token name : List ℕ) (level : Level) → is_some (find (has_key token name) (held a).grants) ≡ true → Becomes b (grants_changed (has_key token name) (with_level level) (held a)) → LevelIsPut (held a) (held b) token name level
-level_was_set a b token name level there became = subst (λ (t : Tables). LevelIsPut (held a) t token name level) (sym became.1) (record { put = inl (there, refl); others = refl })
+pub level_was_set : {l : Layout} → (a b : State) (token name : List ℕ) (level : Level) → is_some (find (has_key token name) (held l a).grants) ≡ true → Becomes l b (grants_changed (has_key token name) (with_level level) (held l a)) → LevelIsPut (held l a) (held l b) token name level
+level_was_set {l} a b token name level there became = subst (λ (t : Tables). LevelIsPut (held l a) t token name level) (sym became.1) (record { put = inl (there, refl); others = refl })
 
-set_no_quota : (a b : State) (name : List ℕ) (quota : ℕ) → find (of_first name) (held a).repos ≡ None → Becomes b (repos_changed (of_first name) (with_quota quota) (held a)) → held b ≡ held a
-set_no_quota a b name quota none became = became.1 ∙ (λ i. record (held a) { repos = none_changed (of_first name) (with_quota quota) (held a).repos none i })
+set_no_quota : {l : Layout} → (a b : State) (name : List ℕ) (quota : ℕ) → find (of_first name) (held l a).repos ≡ None → Becomes l b (repos_changed (of_first name) (with_quota quota) (held l a)) → held l b ≡ held l a
+set_no_quota {l} a b name quota none became = became.1 ∙ (λ i. record (held l a) { repos = none_changed (of_first name) (with_quota quota) (held l a).repos none i })
 
-pub fresh_repo : (a b : State) (name : List ℕ) (quota : ℕ) → find (of_first name) (held a).repos ≡ None → Becomes b (repos_changed (of_first name) (with_quota quota) (held a)) → find (of_first name) (held b).repos ≡ None
-fresh_repo a b name quota none became = ap (λ (t : Tables). find (of_first name) t.repos) (set_no_quota a b name quota none became) ∙ none
+pub fresh_repo : {l : Layout} → (a b : State) (name : List ℕ) (quota : ℕ) → find (of_first name) (held l a).repos ≡ None → Becomes l b (repos_changed (of_first name) (with_quota quota) (held l a)) → find (of_first name) (held l b).repos ≡ None
+fresh_repo {l} a b name quota none became = ap (λ (t : Tables). find (of_first name) t.repos) (set_no_quota a b name quota none became) ∙ none
 
-pub repo_came : (a b c : State) (name : List ℕ) (quota : ℕ) → find (of_first name) (held a).repos ≡ None → Becomes b (repos_changed (of_first name) (with_quota quota) (held a)) → RepoComes b c (repo_columns name quota) → QuotaIsPut (held a) (held c) name quota
-repo_came a b c name quota none became came =
+pub repo_came : {l : Layout} → (a b c : State) (name : List ℕ) (quota : ℕ) → find (of_first name) (held l a).repos ≡ None → Becomes l b (repos_changed (of_first name) (with_quota quota) (held l a)) → RepoComes l b c (repo_columns name quota) → QuotaIsPut (held l a) (held l c) name quota
+repo_came {l} a b c name quota none became came =
     let same = set_no_quota a b name quota none became in record {
-      put = inr (none, subst (λ (t : Tables). Comes t.repos (held c).repos (repo_columns name quota)) same came.comes);
-      others = subst (λ (t : Tables). held c ≡ record t { repos = (held c).repos }) same came.others;
+      put = inr (none, subst (λ (t : Tables). Comes t.repos (held l c).repos (repo_columns name quota)) same came.comes);
+      others = subst (λ (t : Tables). held l c ≡ record t { repos = (held l c).repos }) same came.others;
     }
 
-pub quota_was_set : (a b : State) (name : List ℕ) (quota : ℕ) → is_some (find (of_first name) (held a).repos) ≡ true → Becomes b (repos_changed (of_first name) (with_quota quota) (held a)) → QuotaIsPut (held a) (held b) name quota
-quota_was_set a b name quota there became = subst (λ (t : Tables). QuotaIsPut (held a) t name quota) (sym became.1) (record { put = inl (there, refl); others = refl })
+pub quota_was_set : {l : Layout} → (a b : State) (name : List ℕ) (quota : ℕ) → is_some (find (of_first name) (held l a).repos) ≡ true → Becomes l b (repos_changed (of_first name) (with_quota quota) (held l a)) → QuotaIsPut (held l a) (held l b) name quota
+quota_was_set {l} a b name quota there became = subst (λ (t : Tables). QuotaIsPut (held l a) t name quota) (sym became.1) (record { put = inl (there, refl); others = refl })
 
 -- ---- the worlds
 

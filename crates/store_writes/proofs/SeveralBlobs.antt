@@ -6,6 +6,7 @@ use Rattle.oci_types.specs.Text.{Text}
 use Rattle.registry_model.specs.Blobs.{without_blob}
 use Rattle.registry_model.specs.Pruning.{without_blobs, delete_blobs}
 use Rattle.store_schema.proofs.Selects.{commit_then, survives_both}
+use Rattle.store_contents.specs.Layouts.{Layout}
 use Rattle.store_statements.specs.Keys.{has_key}
 use Rattle.store_statements.specs.Tables.{Tables}
 use Rattle.store_statements.specs.World.{world_of}
@@ -36,28 +37,28 @@ one_more : (name : Text) (digests : List Text) (digest : Text) (t : Tables) → 
 one_more name [] digest t = refl
 one_more name (other ∷ digests) digest t = one_more name digests digest (blobs_without (has_key name other) t)
 
-pub record TakenSoFar (first now : State) (name : Text) (digests : List Text) : Type 0 where
-  pub taken : HasCleanDisk now → IsReady first → Becomes now (without_blob_links name digests (held first))
-  pub kept : HasCleanDisk now → IsReady first → KeepsCommit first now
+pub record TakenSoFar (l : Layout) (first now : State) (name : Text) (digests : List Text) : Type 0 where
+  pub taken : HasCleanDisk now → IsReady l first → Becomes l now (without_blob_links name digests (held l first))
+  pub kept : HasCleanDisk now → IsReady l first → KeepsCommit first now
   pub survives : Survives first now (λ _. ⊥)
 
-pub so_far_none : (s : State) (name : Text) → TakenSoFar s s name []
-so_far_none s name = record {
+pub so_far_none : (l : Layout) (s : State) (name : Text) → TakenSoFar l s s name []
+so_far_none l s name = record {
   taken = λ clean is. (is, refl);
   kept = λ clean is. record { was_open = λ open_now. open_now; committed = λ open_now. refl };
   survives = record { clean = omega arith; shield = λ x. x; counts = omega arith; limit = refl; closes = λ clean open_now. inl open_now; crash = λ clean db may. inl may };
 }
 
-pub so_far_more : (first mid new : State) (name : Text) (digests : List Text) (at : ℕ) (d : Text) → at < length digests → TakenSoFar first mid name (take at digests)
-    → (HasCleanDisk new → IsReady mid → Becomes new (blobs_without (has_key name (get_or digests at d)) (held mid))) → (HasCleanDisk new → IsReady mid → KeepsCommit mid new) → Survives mid new (λ _. ⊥)
-    → TakenSoFar first new name (take (at + 1) digests)
-so_far_more first mid new name digests at d low before taken kept survives = record {
+pub so_far_more : {l : Layout} → (first mid new : State) (name : Text) (digests : List Text) (at : ℕ) (d : Text) → at < length digests → TakenSoFar l first mid name (take at digests)
+    → (HasCleanDisk new → IsReady l mid → Becomes l new (blobs_without (has_key name (get_or digests at d)) (held l mid))) → (HasCleanDisk new → IsReady l mid → KeepsCommit mid new) → Survives mid new (λ _. ⊥)
+    → TakenSoFar l first new name (take (at + 1) digests)
+so_far_more {l} first mid new name digests at d low before taken kept survives = record {
   taken = λ clean ready.
       let it = before.taken (early clean) ready in
       let now = taken clean it.0 in (
         now.0,
-        now.1 ∙ ap (blobs_without (has_key name (get_or digests at d))) it.1 ∙ sym (one_more name (take at digests) (get_or digests at d) (held first))
-            ∙ ap (λ l. without_blob_links name l (held first)) (sym (take_more digests at d low)),
+        now.1 ∙ ap (blobs_without (has_key name (get_or digests at d))) it.1 ∙ sym (one_more name (take at digests) (get_or digests at d) (held l first))
+            ∙ ap (λ ds. without_blob_links name ds (held l first)) (sym (take_more digests at d low)),
       );
   kept = λ clean ready. commit_then first mid new (before.kept (early clean) ready) (kept clean (before.taken (early clean) ready).0);
   survives = survives_both first mid new before.survives survives;

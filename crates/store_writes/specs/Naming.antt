@@ -21,9 +21,9 @@ is_named t id = is_in_column 4 t.blobs id || (is_in_column 6 t.manifests id || i
 -- the contents of these ids are gone; every other content stays, as does every other table
 pub record ContentsGone (old new : Tables) (ids : List ContentId) : Type 0 where
   pub contents : (id : ℤ) → new.contents id ≡ (if is_among ids id then None else old.contents id)
-  pub others : new ≡ record old { contents = new.contents }
+  pub others : new ≡ record old { contents = new.contents; places = new.places }
 
 -- exactly the contents that something names stay, with every other table
 pub record Cleared (old new : Tables) : Type 0 where
   pub contents : (id : ℤ) → new.contents id ≡ (if is_named old id then old.contents id else None)
-  pub others : new ≡ record old { contents = new.contents }
+  pub others : new ≡ record old { contents = new.contents; places = new.places }

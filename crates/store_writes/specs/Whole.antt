@@ -11,6 +11,7 @@ use Rattle.registry_model.specs.World.{World}
 use Rattle.registry_model.specs.Lookups.{session_at}
 use Rattle.store_schema.specs.Rows.{natural_at}
 use Rattle.store_contents.specs.declared.content_id.ContentId.{ContentId}
+use Rattle.store_contents.specs.Layouts.{Layout}
 use Rattle.store_statements.specs.Keys.{of_session}
 use Rattle.store_statements.specs.Tables.{Tables}
 use Rattle.store_statements.specs.World.{pieces_of, world_of}
@@ -58,21 +59,22 @@ WholeEnds old new name number digest link =
     LinkIsPut (sessions_without (of_session name number) old) new name digest link.size link.content.id
 
 -- where it was done, this was so and the world is that; where it was not, nothing changed
-abbrev pub DoneWhereSo : Bool → State → State → (World → Bool) → (World → World) → Type 0
-DoneWhereSo true old new so f = (so (world_in old) ≡ true) × SettlesOn new (f (world_in old))
-DoneWhereSo false old new so f = StaysSettled old new
+abbrev pub DoneWhereSo : Layout → Bool → State → State → (World → Bool) → (World → World) → Type 0
+DoneWhereSo l true old new so f = (so (world_in l old) ≡ true) × SettlesOn l new (f (world_in l old))
+DoneWhereSo l false old new so f = StaysSettled l old new
 
 -- what an answer says of an outcome: where it was done the world is that, else it is as it was
-abbrev pub ToldWhereSo : Bool → State → World → World → Type 0
-ToldWhereSo true s was made = SettlesOn s made
-ToldWhereSo false s was made = SettlesOn s was
+abbrev pub ToldWhereSo : Layout → Bool → State → World → World → Type 0
+ToldWhereSo l true s was made = SettlesOn l s made
+ToldWhereSo l false s was made = SettlesOn l s was
 
 -- A crash leaves the world as it was, or where this was so, that; as the answer says, where there is one.
-abbrev pub CrashEnds : {S : Type 0} → Ghosts S → Held S → Held S → {A : Type 0} → Result (Option A) Fault
-    → (World → Bool) → (World → World) → Type 0
-CrashEnds g old new r so f =
-    HasCleanDisk (state g new) → IsSettled (state g old)
+abbrev pub CrashEnds : {S : Type 0} → Ghosts S → Layout → Held S → Held S → {A : Type 0}
+    → Result (Option A) Fault → (World → Bool) → (World → World) → Type 0
+CrashEnds g l old new r so f =
+    HasCleanDisk (state g new) → IsSettled l (state g old)
     → Outcomes (state g old).now (state g new)
-    (λ s. IfOk r (λ end. ToldWhereSo (is_some end) s (world_in (state g old)) (f (world_in (state g old)))))
-    (λ s. SettlesOn s (world_in (state g old)))
-    (λ s. (so (world_in (state g old)) ≡ true) × SettlesOn s (f (world_in (state g old))))
+    (λ s. IfOk r
+    (λ end. ToldWhereSo l (is_some end) s (world_in l (state g old)) (f (world_in l (state g old)))))
+    (λ s. SettlesOn l s (world_in l (state g old)))
+    (λ s. (so (world_in l (state g old)) ≡ true) × SettlesOn l s (f (world_in l (state g old))))

@@ -6,6 +6,7 @@ use Rattle.sqlite.specs.Held.{Held, state}
 use Rattle.oci_types.specs.Text.{Text}
 use Rattle.registry_model.specs.World.{World, repo_at, update_repo}
 use Rattle.registry_model.specs.Manifests.{with_tag}
+use Rattle.store_contents.specs.Layouts.{Layout}
 use Rattle.store_statements.specs.Keys.{has_key}
 use Rattle.store_statements.specs.Changes.{Grow}
 use Rattle.store_statements.specs.Tables.{Tables}
@@ -14,17 +15,17 @@ use Rattle.store_statements.specs.World.{world_of}
 use Rattle.store_statements.specs.Held.{IsReady, held}
 
 -- inside a transaction, and the tables stand for a world
-pub record IsWhole (s : State) : Type 0 where
-  pub ready : IsReady s
-  pub agree : Agree (held s)
+pub record IsWhole (l : Layout) (s : State) : Type 0 where
+  pub ready : IsReady l s
+  pub agree : Agree (held l s)
 
 -- they still do, for this one; the same repositories are there, and each content that was
-pub record Turns (old new : State) (w : World) : Type 0 where
-  pub whole : IsWhole new
-  pub world : world_of (held new) ≡ w
-  pub repos : (held new).repos ≡ (held old).repos
-  pub beside : (held new).beside ≡ (held old).beside
-  pub grow : Grow (held old).contents (held new).contents
+pub record Turns (l : Layout) (old new : State) (w : World) : Type 0 where
+  pub whole : IsWhole l new
+  pub world : world_of (held l new) ≡ w
+  pub repos : (held l new).repos ≡ (held l old).repos
+  pub beside : (held l new).beside ≡ (held l old).beside
+  pub grow : Grow (held l old).contents (held l new).contents
 
 -- tables that agree stand for this world
 abbrev pub StandsFor : Tables → World → Type 0
@@ -35,20 +36,20 @@ abbrev pub tagged : World → Text → Option Text → Text → World
 tagged w name tag digest = update_repo w name (λ r. with_tag r tag digest) (repo_at w name)
 
 -- ---- what the clauses of these steps say, where the disk has returned what was written
-module _ {S : Type 0} (g : Ghosts S) (old new : Held S) where
+module _ {S : Type 0} (g : Ghosts S) (l : Layout) (old new : Held S) where
   -- nothing was committed
   abbrev pub KeepsWhole : Type 0
-  KeepsWhole = HasCleanDisk (state g new) → IsWhole (state g old) → KeepsCommit (state g old) (state g new)
+  KeepsWhole = HasCleanDisk (state g new) → IsWhole l (state g old) → KeepsCommit (state g old) (state g new)
 
   -- where the repository is there, the world is this of the one before
   abbrev pub TurnsThere : {A E : Type 0} → Result A E → Text → (World → World) → Type 0
   TurnsThere r name f =
-      HasCleanDisk (state g new) → IsWhole (state g old) → is_repo (held (state g old)).repos name ≡ true
-      → OnOk r (Turns (state g old) (state g new) (f (world_of (held (state g old)))))
+      HasCleanDisk (state g new) → IsWhole l (state g old) → is_repo (held l (state g old)).repos name ≡ true
+      → OnOk r (Turns l (state g old) (state g new) (f (world_of (held l (state g old)))))
 
   -- where it is there, without a manifest of the digest
   abbrev pub TurnsFresh : {A E : Type 0} → Result A E → Text → Text → (World → World) → Type 0
   TurnsFresh r name digest f =
-      HasCleanDisk (state g new) → IsWhole (state g old) → is_repo (held (state g old)).repos name ≡ true
-      → find (has_key name digest) (held (state g old)).manifests ≡ None
-      → OnOk r (Turns (state g old) (state g new) (f (world_of (held (state g old)))))
+      HasCleanDisk (state g new) → IsWhole l (state g old) → is_repo (held l (state g old)).repos name ≡ true
+      → find (has_key name digest) (held l (state g old)).manifests ≡ None
+      → OnOk r (Turns l (state g old) (state g new) (f (world_of (held l (state g old)))))

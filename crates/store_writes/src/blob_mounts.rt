@@ -2,6 +2,7 @@
 ghost use Rattle.std.specs.Prelude.{◌≡◌, true, None, find};
 ghost use Rattle.registry_model.specs.World.{has_repo};
 ghost use Rattle.registry_model.specs.Lookups.{mount};
+ghost use Rattle.store_contents.specs.Layouts.{Layout};
 ghost use Rattle.store_statements.specs.Keys.{has_key};
 ghost use Rattle.store_statements.specs.Between.{CrashLeaves, GoesBack, MakesWorld, Relates, StaysOnMemory};
 ghost use Rattle.store_statements.specs.Clauses.{Lasts, TablesHave, WorldHas};
@@ -20,18 +21,21 @@ fn mount_link<S: Alter>(
     to: &str,
     digest: &str,
 ) -> Result<(), Fault>
-    ensures made { WorldHas S.Store conn.old (λ w. has_repo w to.now ≡ true)
-        → TablesHave S.Store conn.old (λ t. find (has_key to.now digest.now) t.blobs ≡ None)
-        → MakesWorld S.Store conn.old conn.new result (λ w. mount w from.now to.now digest.now) }
-    ensures stays { TablesHave S.Store conn.old (λ t. find (has_key to.now digest.now) t.blobs ≡ None)
-        → Relates S.Store conn.old conn.new result (λ t u. u.contents ≡ t.contents) }
-    ensures memory { TablesHave S.Store conn.old (λ t. find (has_key to.now digest.now) t.blobs ≡ None)
-        → StaysOnMemory S.Store conn.old conn.new result }
-    ensures back { TablesHave S.Store conn.old (λ t. find (has_key to.now digest.now) t.blobs ≡ None)
-        → GoesBack S.Store conn.old conn.new result }
-    ensures crash { WorldHas S.Store conn.old (λ w. has_repo w to.now ≡ true)
-        → TablesHave S.Store conn.old (λ t. find (has_key to.now digest.now) t.blobs ≡ None)
-        → CrashLeaves S.Store conn.old conn.new result (λ w. mount w from.now to.now digest.now) }
+    ensures made { (l : Layout) → WorldHas S.Store l conn.old (λ w. has_repo w to.now ≡ true)
+        → TablesHave S.Store l conn.old (λ t. find (has_key to.now digest.now) t.blobs ≡ None)
+        → MakesWorld S.Store l conn.old conn.new result (λ w. mount w from.now to.now digest.now) }
+    ensures stays { (l : Layout)
+        → TablesHave S.Store l conn.old (λ t. find (has_key to.now digest.now) t.blobs ≡ None)
+        → Relates S.Store l conn.old conn.new result (λ t u. u.contents ≡ t.contents) }
+    ensures memory { (l : Layout)
+        → TablesHave S.Store l conn.old (λ t. find (has_key to.now digest.now) t.blobs ≡ None)
+        → StaysOnMemory S.Store l conn.old conn.new result }
+    ensures back { (l : Layout)
+        → TablesHave S.Store l conn.old (λ t. find (has_key to.now digest.now) t.blobs ≡ None)
+        → GoesBack S.Store l conn.old conn.new result }
+    ensures crash { (l : Layout) → WorldHas S.Store l conn.old (λ w. has_repo w to.now ≡ true)
+        → TablesHave S.Store l conn.old (λ t. find (has_key to.now digest.now) t.blobs ≡ None)
+        → CrashLeaves S.Store l conn.old conn.new result (λ w. mount w from.now to.now digest.now) }
     ensures survives { Lasts S.Store conn.old conn.new }
 {
     match find_blob_link(conn, from, digest) {
@@ -57,13 +61,14 @@ pub fn mount<S: Alter>(
     to: &RepoName,
     digest: &Digest,
 ) -> Result<(), Fault>
-    ensures made { WorldHas S.Store conn.old (λ w. has_repo w to.now ≡ true)
-        → MakesWorld S.Store conn.old conn.new result (λ w. mount w from.now to.now digest.now) }
-    ensures stays { Relates S.Store conn.old conn.new result (λ t u. u.contents ≡ t.contents) }
-    ensures memory { StaysOnMemory S.Store conn.old conn.new result }
-    ensures back { GoesBack S.Store conn.old conn.new result }
-    ensures crash { WorldHas S.Store conn.old (λ w. has_repo w to.now ≡ true)
-        → CrashLeaves S.Store conn.old conn.new result
+    ensures made { (l : Layout) → WorldHas S.Store l conn.old (λ w. has_repo w to.now ≡ true)
+        → MakesWorld S.Store l conn.old conn.new result (λ w. mount w from.now to.now digest.now) }
+    ensures stays { (l : Layout)
+        → Relates S.Store l conn.old conn.new result (λ t u. u.contents ≡ t.contents) }
+    ensures memory { (l : Layout) → StaysOnMemory S.Store l conn.old conn.new result }
+    ensures back { (l : Layout) → GoesBack S.Store l conn.old conn.new result }
+    ensures crash { (l : Layout) → WorldHas S.Store l conn.old (λ w. has_repo w to.now ≡ true)
+        → CrashLeaves S.Store l conn.old conn.new result
         (λ w. mount w from.now to.now digest.now) }
     ensures survives { Lasts S.Store conn.old conn.new }
 {

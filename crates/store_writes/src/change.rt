@@ -4,6 +4,7 @@ use crate::session_change::SessionChange;
 use oci_types::{Digest, Manifest, Tag};
 use registry_model::Level;
 use std::alloc::Global;
+use store_places::Source;
 use store_statements::blobs::BlobLink;
 
 /// What one transaction makes of the tables.
@@ -14,7 +15,7 @@ pub(crate) enum Change<'a> {
         alloc: Global,
         repo: &'a str,
         digest: &'a str,
-        bytes: &'a [u8],
+        source: Source<'a>,
     },
     /// A link comes that the repository has not, to a content that is there.
     AddLink {
@@ -37,7 +38,7 @@ pub(crate) enum Change<'a> {
         alloc: Global,
         repo: &'a str,
         digest: &'a str,
-        bytes: &'a [u8],
+        source: Source<'a>,
         manifest: &'a Manifest,
         tag: Option<&'a Tag>,
     },

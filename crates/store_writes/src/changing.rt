@@ -2,11 +2,12 @@
 ghost use Rattle.std.specs.Prelude.{◌≡◌};
 ghost use Rattle.sqlite.specs.State.{HasCleanDisk, KeepsCommit};
 ghost use Rattle.sqlite.specs.Held.{state};
+ghost use Rattle.store_contents.specs.Layouts.{Layout};
 ghost use Rattle.store_statements.specs.Between.{CommitsStep, CrashMakes, GoesBack, StaysOnMemory};
 ghost use Rattle.store_statements.specs.Clauses.{Lasts, LastsUncommitted, TablesHave};
 ghost use Rattle.store_statements.specs.Held.{IsReady, held};
 ghost use Rattle.store_statements.specs.StepsFrom.{StepsFrom};
-ghost use Rattle.store_writes.specs.Changing.{Asks, Fits, Makes};
+ghost use Rattle.store_writes.specs.Changing.{Asks, Fits, Makes, Suits};
 
 use crate::change::Change;
 use crate::content_clearing::clear_contents;
@@ -28,10 +29,12 @@ use store_statements::telling::checked;
 /// Makes a change inside a transaction.
 fn work<S: Alter>(tx: &mut Transaction<'_, S>, change: Change<'_>) -> Result<(), Fault>
     requires fits { Fits change }
-    ensures made { StepsFrom S.Store tx.old.conn.now tx.new.conn.now result (Asks change.entry)
-        (Makes change.entry) }
-    ensures kept { HasCleanDisk (state S.Store tx.new.conn.now) → IsReady (state S.Store tx.old.conn.now)
-        → Asks change.entry (held (state S.Store tx.old.conn.now))
+    ensures made { (l : Layout) → Suits l change.entry
+        → StepsFrom S.Store l tx.old.conn.now tx.new.conn.now result (Asks change.entry)
+        (Makes l change.entry) }
+    ensures kept { (l : Layout) → Suits l change.entry → HasCleanDisk (state S.Store tx.new.conn.now)
+        → IsReady l (state S.Store tx.old.conn.now)
+        → Asks change.entry (held l (state S.Store tx.old.conn.now))
         → KeepsCommit (state S.Store tx.old.conn.now) (state S.Store tx.new.conn.now) }
     ensures same_reference { tx.new.conn.ghost_name ≡ tx.old.conn.ghost_name }
     ensures survives { LastsUncommitted S.Store tx.old.conn.now tx.new.conn.now }
@@ -41,8 +44,8 @@ fn work<S: Alter>(tx: &mut Transaction<'_, S>, change: Change<'_>) -> Result<(),
             alloc,
             repo,
             digest,
-            bytes,
-        } => store_blob(alloc, tx, repo, digest, bytes),
+            source,
+        } => store_blob(alloc, tx, repo, digest, source),
         Change::AddLink { repo, digest, link } => add_blob_link(
             tx,
             repo,
@@ -56,10 +59,10 @@ fn work<S: Alter>(tx: &mut Transaction<'_, S>, change: Change<'_>) -> Result<(),
             alloc,
             repo,
             digest,
-            bytes,
+            source,
             manifest,
             tag,
-        } => add_tagged(alloc, tx, repo, digest, bytes, manifest, tag),
+        } => add_tagged(alloc, tx, repo, digest, source, manifest, tag),
         Change::SetTag { repo, tag, digest } => put_tag_if(tx, repo, tag, digest),
         Change::TakeManifest { repo, digest } => take_manifest(tx, repo, digest),
         Change::TakeTag { repo, tag } => take_tag(tx, repo, tag),
@@ -76,14 +79,14 @@ fn work<S: Alter>(tx: &mut Transaction<'_, S>, change: Change<'_>) -> Result<(),
 /// Makes a change in a transaction of its own. A failure is told as the store's caller sees it.
 pub(crate) fn make<S: Alter>(conn: &mut Connection<S>, change: Change<'_>) -> Result<(), Fault>
     requires fits { Fits change }
-    ensures made { TablesHave S.Store conn.old (Asks change.entry)
-        → CommitsStep S.Store conn.old conn.new result (Makes change.entry) }
-    ensures memory { TablesHave S.Store conn.old (Asks change.entry)
-        → StaysOnMemory S.Store conn.old conn.new result }
-    ensures back { TablesHave S.Store conn.old (Asks change.entry)
-        → GoesBack S.Store conn.old conn.new result }
-    ensures crash { TablesHave S.Store conn.old (Asks change.entry)
-        → CrashMakes S.Store conn.old conn.new result (Makes change.entry) }
+    ensures made { (l : Layout) → Suits l change.entry → TablesHave S.Store l conn.old (Asks change.entry)
+        → CommitsStep S.Store l conn.old conn.new result (Makes l change.entry) }
+    ensures memory { (l : Layout) → Suits l change.entry → TablesHave S.Store l conn.old (Asks change.entry)
+        → StaysOnMemory S.Store l conn.old conn.new result }
+    ensures back { (l : Layout) → Suits l change.entry → TablesHave S.Store l conn.old (Asks change.entry)
+        → GoesBack S.Store l conn.old conn.new result }
+    ensures crash { (l : Layout) → Suits l change.entry → TablesHave S.Store l conn.old (Asks change.entry)
+        → CrashMakes S.Store l conn.old conn.new result (Makes l change.entry) }
     ensures survives { Lasts S.Store conn.old conn.new }
 {
     let done = alone!(conn, tx, work(&mut tx, change));

@@ -4,6 +4,7 @@ ghost use Rattle.std.specs.BTreeSet.{keys};
 ghost use Rattle.std.specs.Ordering.{int_eq};
 ghost use Rattle.sqlite.specs.State.{HasCleanDisk};
 ghost use Rattle.sqlite.specs.Held.{state};
+ghost use Rattle.store_contents.specs.Layouts.{Layout, InTables};
 ghost use Rattle.store_statements.specs.Between.{CrashLeaves, GoesBack, MakesWorld, Relates, StaysOnMemory};
 ghost use Rattle.store_statements.specs.Clauses.{ChangesNothingInside, KeepsInside, Lasts, LastsUncommitted, StepsInside};
 ghost use Rattle.store_statements.specs.Held.{IsReady, held};
@@ -60,11 +61,12 @@ fn add_named<S: Alter>(
     tx: &mut Transaction<'_, S>,
     set: &mut BTreeSet<ContentId>,
 ) -> Result<(), Fault>
-    ensures named { HasCleanDisk (state S.Store tx.new.conn.now) → IsReady (state S.Store tx.old.conn.now)
+    ensures named { (l : Layout) → HasCleanDisk (state S.Store tx.new.conn.now)
+        → IsReady l (state S.Store tx.old.conn.now)
         → OnOk result (keys set.old ≡ [] → (i : ℤ)
-        → is_among (keys set.new) i ≡ is_named (held (state S.Store tx.old.conn.now)) i) }
-    ensures same { ChangesNothingInside S.Store tx.old.conn.now tx.new.conn.now result }
-    ensures kept { KeepsInside S.Store tx.old.conn.now tx.new.conn.now }
+        → is_among (keys set.new) i ≡ is_named (held l (state S.Store tx.old.conn.now)) i) }
+    ensures same { (l : Layout) → ChangesNothingInside S.Store l tx.old.conn.now tx.new.conn.now result }
+    ensures kept { (l : Layout) → KeepsInside S.Store l tx.old.conn.now tx.new.conn.now }
     ensures same_reference { tx.new.conn.ghost_name ≡ tx.old.conn.ghost_name }
     ensures survives { LastsUncommitted S.Store tx.old.conn.now tx.new.conn.now }
 {
@@ -75,9 +77,9 @@ fn add_named<S: Alter>(
 
 /// Takes the content out, where it is there.
 fn take_content<S: Alter>(tx: &mut Transaction<'_, S>, id: ContentId) -> Result<(), Fault>
-    ensures taken { StepsInside S.Store tx.old.conn.now tx.new.conn.now result
+    ensures taken { StepsInside S.Store InTables tx.old.conn.now tx.new.conn.now result
         (λ t u. ContentsGone t u (id ∷ [])) }
-    ensures kept { KeepsInside S.Store tx.old.conn.now tx.new.conn.now }
+    ensures kept { KeepsInside S.Store InTables tx.old.conn.now tx.new.conn.now }
     ensures same_reference { tx.new.conn.ghost_name ≡ tx.old.conn.ghost_name }
     ensures survives { LastsUncommitted S.Store tx.old.conn.now tx.new.conn.now }
 {
@@ -86,9 +88,9 @@ fn take_content<S: Alter>(tx: &mut Transaction<'_, S>, id: ContentId) -> Result<
 
 /// Takes the contents out, where they are there.
 fn take_contents<S: Alter>(tx: &mut Transaction<'_, S>, ids: &[ContentId]) -> Result<(), Fault>
-    ensures taken { StepsInside S.Store tx.old.conn.now tx.new.conn.now result
+    ensures taken { StepsInside S.Store InTables tx.old.conn.now tx.new.conn.now result
         (λ t u. ContentsGone t u ids.now) }
-    ensures kept { KeepsInside S.Store tx.old.conn.now tx.new.conn.now }
+    ensures kept { KeepsInside S.Store InTables tx.old.conn.now tx.new.conn.now }
     ensures same_reference { tx.new.conn.ghost_name ≡ tx.old.conn.ghost_name }
     ensures survives { LastsUncommitted S.Store tx.old.conn.now tx.new.conn.now }
 {
@@ -103,8 +105,9 @@ pub(crate) fn clear_contents<S: Alter>(
     alloc: Global,
     tx: &mut Transaction<'_, S>,
 ) -> Result<(), Fault>
-    ensures cleared { StepsInside S.Store tx.old.conn.now tx.new.conn.now result (λ t u. Cleared t u) }
-    ensures kept { KeepsInside S.Store tx.old.conn.now tx.new.conn.now }
+    ensures cleared { StepsInside S.Store InTables tx.old.conn.now tx.new.conn.now result
+        (λ t u. Cleared t u) }
+    ensures kept { KeepsInside S.Store InTables tx.old.conn.now tx.new.conn.now }
     ensures same_reference { tx.new.conn.ghost_name ≡ tx.old.conn.ghost_name }
     ensures survives { LastsUncommitted S.Store tx.old.conn.now tx.new.conn.now }
 {
@@ -117,12 +120,12 @@ pub(crate) fn clear_contents<S: Alter>(
 /// Frees each content that no blob, manifest or upload session names: exactly the others stay, and the
 /// world does not change. A failure frees nothing.
 pub fn clear<S: Alter>(alloc: Global, conn: &mut Connection<S>) -> Result<(), Fault>
-    ensures made { MakesWorld S.Store conn.old conn.new result (λ w. w) }
-    ensures freed { Relates S.Store conn.old conn.new result
+    ensures made { MakesWorld S.Store InTables conn.old conn.new result (λ w. w) }
+    ensures freed { Relates S.Store InTables conn.old conn.new result
         (λ t u. (id : ℤ) → u.contents id ≡ (if is_named t id then t.contents id else None)) }
-    ensures memory { StaysOnMemory S.Store conn.old conn.new result }
-    ensures back { GoesBack S.Store conn.old conn.new result }
-    ensures crash { CrashLeaves S.Store conn.old conn.new result (λ w. w) }
+    ensures memory { StaysOnMemory S.Store InTables conn.old conn.new result }
+    ensures back { GoesBack S.Store InTables conn.old conn.new result }
+    ensures crash { CrashLeaves S.Store InTables conn.old conn.new result (λ w. w) }
     ensures survives { Lasts S.Store conn.old conn.new }
 {
     make(conn, Change::Clear { alloc })

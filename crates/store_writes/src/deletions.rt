@@ -2,6 +2,7 @@
 ghost use Rattle.std.specs.Prelude.{◌≡◌};
 ghost use Rattle.registry_model.specs.Lookups.{delete_blob, delete_manifest, delete_tag};
 ghost use Rattle.registry_model.specs.Pruning.{delete_blobs};
+ghost use Rattle.store_contents.specs.Layouts.{Layout};
 ghost use Rattle.store_statements.specs.Between.{CrashLeaves, GoesBack, MakesWorld, Relates, StaysOnMemory};
 ghost use Rattle.store_statements.specs.Clauses.{Changes, KeepsInside, Lasts, LastsUncommitted};
 ghost use Rattle.store_statements.specs.Steps.{without_manifest};
@@ -21,11 +22,14 @@ pub fn delete_tag<S: Alter>(
     repo: &RepoName,
     tag: &Tag,
 ) -> Result<(), Fault>
-    ensures made { MakesWorld S.Store conn.old conn.new result (λ w. delete_tag w repo.now tag.now) }
-    ensures stays { Relates S.Store conn.old conn.new result (λ t u. u.contents ≡ t.contents) }
-    ensures memory { StaysOnMemory S.Store conn.old conn.new result }
-    ensures back { GoesBack S.Store conn.old conn.new result }
-    ensures crash { CrashLeaves S.Store conn.old conn.new result (λ w. delete_tag w repo.now tag.now) }
+    ensures made { (l : Layout)
+        → MakesWorld S.Store l conn.old conn.new result (λ w. delete_tag w repo.now tag.now) }
+    ensures stays { (l : Layout)
+        → Relates S.Store l conn.old conn.new result (λ t u. u.contents ≡ t.contents) }
+    ensures memory { (l : Layout) → StaysOnMemory S.Store l conn.old conn.new result }
+    ensures back { (l : Layout) → GoesBack S.Store l conn.old conn.new result }
+    ensures crash { (l : Layout)
+        → CrashLeaves S.Store l conn.old conn.new result (λ w. delete_tag w repo.now tag.now) }
     ensures survives { Lasts S.Store conn.old conn.new }
 {
     make(
@@ -43,11 +47,14 @@ pub fn delete_blob<S: Alter>(
     repo: &RepoName,
     digest: &Digest,
 ) -> Result<(), Fault>
-    ensures made { MakesWorld S.Store conn.old conn.new result (λ w. delete_blob w repo.now digest.now) }
-    ensures stays { Relates S.Store conn.old conn.new result (λ t u. u.contents ≡ t.contents) }
-    ensures memory { StaysOnMemory S.Store conn.old conn.new result }
-    ensures back { GoesBack S.Store conn.old conn.new result }
-    ensures crash { CrashLeaves S.Store conn.old conn.new result (λ w. delete_blob w repo.now digest.now) }
+    ensures made { (l : Layout)
+        → MakesWorld S.Store l conn.old conn.new result (λ w. delete_blob w repo.now digest.now) }
+    ensures stays { (l : Layout)
+        → Relates S.Store l conn.old conn.new result (λ t u. u.contents ≡ t.contents) }
+    ensures memory { (l : Layout) → StaysOnMemory S.Store l conn.old conn.new result }
+    ensures back { (l : Layout) → GoesBack S.Store l conn.old conn.new result }
+    ensures crash { (l : Layout)
+        → CrashLeaves S.Store l conn.old conn.new result (λ w. delete_blob w repo.now digest.now) }
     ensures survives { Lasts S.Store conn.old conn.new }
 {
     make(
@@ -65,9 +72,9 @@ pub(crate) fn take_links_to<S: Alter>(
     repo: &str,
     digests: &[Digest],
 ) -> Result<(), Fault>
-    ensures taken { Changes S.Store tx.old.conn.now tx.new.conn.now result
+    ensures taken { (l : Layout) → Changes S.Store l tx.old.conn.now tx.new.conn.now result
         (without_blob_links repo.now digests.now) }
-    ensures kept { KeepsInside S.Store tx.old.conn.now tx.new.conn.now }
+    ensures kept { (l : Layout) → KeepsInside S.Store l tx.old.conn.now tx.new.conn.now }
     ensures same_reference { tx.new.conn.ghost_name ≡ tx.old.conn.ghost_name }
     ensures survives { LastsUncommitted S.Store tx.old.conn.now tx.new.conn.now }
 {
@@ -83,11 +90,14 @@ pub fn delete_blobs<S: Alter>(
     repo: &RepoName,
     digests: &[Digest],
 ) -> Result<(), Fault>
-    ensures made { MakesWorld S.Store conn.old conn.new result (λ w. delete_blobs w repo.now digests.now) }
-    ensures stays { Relates S.Store conn.old conn.new result (λ t u. u.contents ≡ t.contents) }
-    ensures memory { StaysOnMemory S.Store conn.old conn.new result }
-    ensures back { GoesBack S.Store conn.old conn.new result }
-    ensures crash { CrashLeaves S.Store conn.old conn.new result (λ w. delete_blobs w repo.now digests.now) }
+    ensures made { (l : Layout)
+        → MakesWorld S.Store l conn.old conn.new result (λ w. delete_blobs w repo.now digests.now) }
+    ensures stays { (l : Layout)
+        → Relates S.Store l conn.old conn.new result (λ t u. u.contents ≡ t.contents) }
+    ensures memory { (l : Layout) → StaysOnMemory S.Store l conn.old conn.new result }
+    ensures back { (l : Layout) → GoesBack S.Store l conn.old conn.new result }
+    ensures crash { (l : Layout)
+        → CrashLeaves S.Store l conn.old conn.new result (λ w. delete_blobs w repo.now digests.now) }
     ensures survives { Lasts S.Store conn.old conn.new }
 {
     make(
@@ -105,9 +115,9 @@ pub(crate) fn take_manifest<S: Alter>(
     repo: &str,
     digest: &str,
 ) -> Result<(), Fault>
-    ensures taken { Changes S.Store tx.old.conn.now tx.new.conn.now result
+    ensures taken { (l : Layout) → Changes S.Store l tx.old.conn.now tx.new.conn.now result
         (without_manifest repo.now digest.now) }
-    ensures kept { KeepsInside S.Store tx.old.conn.now tx.new.conn.now }
+    ensures kept { (l : Layout) → KeepsInside S.Store l tx.old.conn.now tx.new.conn.now }
     ensures same_reference { tx.new.conn.ghost_name ≡ tx.old.conn.ghost_name }
     ensures survives { LastsUncommitted S.Store tx.old.conn.now tx.new.conn.now }
 {
@@ -121,11 +131,13 @@ pub fn delete_manifest<S: Alter>(
     repo: &RepoName,
     digest: &Digest,
 ) -> Result<(), Fault>
-    ensures made { MakesWorld S.Store conn.old conn.new result (λ w. delete_manifest w repo.now digest.now) }
-    ensures stays { Relates S.Store conn.old conn.new result (λ t u. u.contents ≡ t.contents) }
-    ensures memory { StaysOnMemory S.Store conn.old conn.new result }
-    ensures back { GoesBack S.Store conn.old conn.new result }
-    ensures crash { CrashLeaves S.Store conn.old conn.new result
+    ensures made { (l : Layout)
+        → MakesWorld S.Store l conn.old conn.new result (λ w. delete_manifest w repo.now digest.now) }
+    ensures stays { (l : Layout)
+        → Relates S.Store l conn.old conn.new result (λ t u. u.contents ≡ t.contents) }
+    ensures memory { (l : Layout) → StaysOnMemory S.Store l conn.old conn.new result }
+    ensures back { (l : Layout) → GoesBack S.Store l conn.old conn.new result }
+    ensures crash { (l : Layout) → CrashLeaves S.Store l conn.old conn.new result
         (λ w. delete_manifest w repo.now digest.now) }
     ensures survives { Lasts S.Store conn.old conn.new }
 {

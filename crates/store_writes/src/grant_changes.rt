@@ -2,6 +2,7 @@
 ghost use Rattle.std.specs.Prelude.{◌≡◌, true};
 ghost use Rattle.registry_model.specs.World.{has_repo};
 ghost use Rattle.registry_model.specs.Command.{grant, revoke, revoke_all};
+ghost use Rattle.store_contents.specs.Layouts.{Layout};
 ghost use Rattle.store_statements.specs.Between.{CrashLeaves, GoesBack, MakesWorld, Relates, StaysOnMemory};
 ghost use Rattle.store_statements.specs.Clauses.{KeepsInside, Lasts, LastsUncommitted, StepsInside, WorldHas};
 ghost use Rattle.store_writes.specs.Puts.{LevelIsPut};
@@ -19,11 +20,14 @@ pub fn revoke<S: Alter>(
     token: &Token,
     name: &RepoName,
 ) -> Result<(), Fault>
-    ensures made { MakesWorld S.Store conn.old conn.new result (λ w. revoke w token.now name.now) }
-    ensures stays { Relates S.Store conn.old conn.new result (λ t u. u.contents ≡ t.contents) }
-    ensures memory { StaysOnMemory S.Store conn.old conn.new result }
-    ensures back { GoesBack S.Store conn.old conn.new result }
-    ensures crash { CrashLeaves S.Store conn.old conn.new result (λ w. revoke w token.now name.now) }
+    ensures made { (l : Layout)
+        → MakesWorld S.Store l conn.old conn.new result (λ w. revoke w token.now name.now) }
+    ensures stays { (l : Layout)
+        → Relates S.Store l conn.old conn.new result (λ t u. u.contents ≡ t.contents) }
+    ensures memory { (l : Layout) → StaysOnMemory S.Store l conn.old conn.new result }
+    ensures back { (l : Layout) → GoesBack S.Store l conn.old conn.new result }
+    ensures crash { (l : Layout)
+        → CrashLeaves S.Store l conn.old conn.new result (λ w. revoke w token.now name.now) }
     ensures survives { Lasts S.Store conn.old conn.new }
 {
     make(
@@ -37,11 +41,14 @@ pub fn revoke<S: Alter>(
 
 /// Takes every level of a token away.
 pub fn revoke_all<S: Alter>(conn: &mut Connection<S>, token: &Token) -> Result<(), Fault>
-    ensures made { MakesWorld S.Store conn.old conn.new result (λ w. revoke_all w token.now) }
-    ensures stays { Relates S.Store conn.old conn.new result (λ t u. u.contents ≡ t.contents) }
-    ensures memory { StaysOnMemory S.Store conn.old conn.new result }
-    ensures back { GoesBack S.Store conn.old conn.new result }
-    ensures crash { CrashLeaves S.Store conn.old conn.new result (λ w. revoke_all w token.now) }
+    ensures made { (l : Layout)
+        → MakesWorld S.Store l conn.old conn.new result (λ w. revoke_all w token.now) }
+    ensures stays { (l : Layout)
+        → Relates S.Store l conn.old conn.new result (λ t u. u.contents ≡ t.contents) }
+    ensures memory { (l : Layout) → StaysOnMemory S.Store l conn.old conn.new result }
+    ensures back { (l : Layout) → GoesBack S.Store l conn.old conn.new result }
+    ensures crash { (l : Layout)
+        → CrashLeaves S.Store l conn.old conn.new result (λ w. revoke_all w token.now) }
     ensures survives { Lasts S.Store conn.old conn.new }
 {
     make(
@@ -59,9 +66,9 @@ pub(crate) fn put_level<S: Alter>(
     repo: &str,
     level: Level,
 ) -> Result<(), Fault>
-    ensures put { StepsInside S.Store tx.old.conn.now tx.new.conn.now result
+    ensures put { (l : Layout) → StepsInside S.Store l tx.old.conn.now tx.new.conn.now result
         (λ t u. LevelIsPut t u token.now repo.now level) }
-    ensures kept { KeepsInside S.Store tx.old.conn.now tx.new.conn.now }
+    ensures kept { (l : Layout) → KeepsInside S.Store l tx.old.conn.now tx.new.conn.now }
     ensures same_reference { tx.new.conn.ghost_name ≡ tx.old.conn.ghost_name }
     ensures survives { LastsUncommitted S.Store tx.old.conn.now tx.new.conn.now }
 {
@@ -80,13 +87,14 @@ pub fn grant<S: Alter>(
     name: &RepoName,
     level: Level,
 ) -> Result<(), Fault>
-    ensures made { WorldHas S.Store conn.old (λ w. has_repo w name.now ≡ true)
-        → MakesWorld S.Store conn.old conn.new result (λ w. grant w token.now name.now level) }
-    ensures stays { Relates S.Store conn.old conn.new result (λ t u. u.contents ≡ t.contents) }
-    ensures memory { StaysOnMemory S.Store conn.old conn.new result }
-    ensures back { GoesBack S.Store conn.old conn.new result }
-    ensures crash { WorldHas S.Store conn.old (λ w. has_repo w name.now ≡ true)
-        → CrashLeaves S.Store conn.old conn.new result
+    ensures made { (l : Layout) → WorldHas S.Store l conn.old (λ w. has_repo w name.now ≡ true)
+        → MakesWorld S.Store l conn.old conn.new result (λ w. grant w token.now name.now level) }
+    ensures stays { (l : Layout)
+        → Relates S.Store l conn.old conn.new result (λ t u. u.contents ≡ t.contents) }
+    ensures memory { (l : Layout) → StaysOnMemory S.Store l conn.old conn.new result }
+    ensures back { (l : Layout) → GoesBack S.Store l conn.old conn.new result }
+    ensures crash { (l : Layout) → WorldHas S.Store l conn.old (λ w. has_repo w name.now ≡ true)
+        → CrashLeaves S.Store l conn.old conn.new result
         (λ w. grant w token.now name.now level) }
     ensures survives { Lasts S.Store conn.old conn.new }
 {

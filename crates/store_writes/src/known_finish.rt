@@ -4,6 +4,7 @@ ghost use Rattle.sqlite.specs.State.{HasCleanDisk};
 ghost use Rattle.sqlite.specs.Held.{state};
 ghost use Rattle.registry_model.specs.Lookups.{blob_at, session_size_at};
 ghost use Rattle.registry_model.specs.Closing.{session_matches, finish_as_is};
+ghost use Rattle.store_contents.specs.Layouts.{Layout, InTables};
 ghost use Rattle.store_statements.specs.Keys.{has_key};
 ghost use Rattle.store_statements.specs.Between.{CrashLeaves, Finds, GoesBack, MakesWorld, Relates, StaysOnMemory, Tells};
 ghost use Rattle.store_statements.specs.Clauses.{KeepsInside, Lasts, LastsUncommitted, TablesHave};
@@ -41,10 +42,10 @@ pub(crate) fn end_whole<S: Alter>(
 ) -> Result<(), Fault>
     requires number_fits { number < 2 ^ 63 }
     requires fits { link.size < 2 ^ 63 }
-    ensures ended { StepsFrom S.Store tx.old.conn.now tx.new.conn.now result
+    ensures ended { (l : Layout) → StepsFrom S.Store l tx.old.conn.now tx.new.conn.now result
         (λ t. find (has_key repo.now digest.now) t.blobs ≡ None)
         (λ t u. WholeEnds t u repo.now number digest.now link) }
-    ensures kept { KeepsInside S.Store tx.old.conn.now tx.new.conn.now }
+    ensures kept { (l : Layout) → KeepsInside S.Store l tx.old.conn.now tx.new.conn.now }
     ensures same_reference { tx.new.conn.ghost_name ≡ tx.old.conn.ghost_name }
     ensures survives { LastsUncommitted S.Store tx.old.conn.now tx.new.conn.now }
 {
@@ -74,16 +75,19 @@ fn finish_whole<S: Alter>(
     link: BlobLink,
 ) -> Result<bool, Fault>
     requires number_fits { number < 2 ^ 63 }
-    ensures made { TablesHave S.Store conn.old (λ t. Some link ≡ known_link t repo.now number digest.now)
-        → MakesWorld S.Store conn.old conn.new result
+    ensures made { (l : Layout)
+        → TablesHave S.Store l conn.old (λ t. Some link ≡ known_link t repo.now number digest.now)
+        → MakesWorld S.Store l conn.old conn.new result
         (λ w. finish_as_is w repo.now number digest.now) }
-    ensures came { Tells S.Store conn.old conn.new result
+    ensures came { (l : Layout) → Tells S.Store l conn.old conn.new result
         (λ w came. came ≡ is_none (blob_at w repo.now digest.now)) }
-    ensures stays { Relates S.Store conn.old conn.new result (λ t u. u.contents ≡ t.contents) }
-    ensures memory { StaysOnMemory S.Store conn.old conn.new result }
-    ensures back { GoesBack S.Store conn.old conn.new result }
-    ensures crash { TablesHave S.Store conn.old (λ t. Some link ≡ known_link t repo.now number digest.now)
-        → CrashLeaves S.Store conn.old conn.new result
+    ensures stays { (l : Layout)
+        → Relates S.Store l conn.old conn.new result (λ t u. u.contents ≡ t.contents) }
+    ensures memory { (l : Layout) → StaysOnMemory S.Store l conn.old conn.new result }
+    ensures back { (l : Layout) → GoesBack S.Store l conn.old conn.new result }
+    ensures crash { (l : Layout)
+        → TablesHave S.Store l conn.old (λ t. Some link ≡ known_link t repo.now number digest.now)
+        → CrashLeaves S.Store l conn.old conn.new result
         (λ w. finish_as_is w repo.now number digest.now) }
     ensures survives { Lasts S.Store conn.old conn.new }
 {
@@ -117,20 +121,20 @@ pub fn finish_known<S: Alter>(
     number: u64,
     digest: &Digest,
 ) -> Result<Option<KnownEnd>, Fault>
-    ensures made { HasCleanDisk (state S.Store conn.new) → IsSettled (state S.Store conn.old)
+    ensures made { HasCleanDisk (state S.Store conn.new) → IsSettled InTables (state S.Store conn.old)
         → IfOk result
-        (λ end. DoneWhereSo (is_some end) (state S.Store conn.old) (state S.Store conn.new)
+        (λ end. DoneWhereSo InTables (is_some end) (state S.Store conn.old) (state S.Store conn.new)
         (λ w. session_matches w repo.now number digest.now)
         (λ w. finish_as_is w repo.now number digest.now)) }
-    ensures known { number < 2 ^ 63 → Finds S.Store conn.old conn.new result
+    ensures known { number < 2 ^ 63 → Finds S.Store InTables conn.old conn.new result
         (λ t end. is_some end ≡ is_some (known_link t repo.now number digest.now)) }
-    ensures ended { Tells S.Store conn.old conn.new result (λ w end. IfSome end
+    ensures ended { Tells S.Store InTables conn.old conn.new result (λ w end. IfSome end
         (λ e. (session_size_at w repo.now number ≡ Some e.size)
         × (e.came ≡ is_none (blob_at w repo.now digest.now)))) }
-    ensures stays { Relates S.Store conn.old conn.new result (λ t u. u.contents ≡ t.contents) }
-    ensures memory { StaysOnMemory S.Store conn.old conn.new result }
-    ensures back { GoesBack S.Store conn.old conn.new result }
-    ensures crash { CrashEnds S.Store conn.old conn.new result
+    ensures stays { Relates S.Store InTables conn.old conn.new result (λ t u. u.contents ≡ t.contents) }
+    ensures memory { StaysOnMemory S.Store InTables conn.old conn.new result }
+    ensures back { GoesBack S.Store InTables conn.old conn.new result }
+    ensures crash { CrashEnds S.Store InTables conn.old conn.new result
         (λ w. session_matches w repo.now number digest.now)
         (λ w. finish_as_is w repo.now number digest.now) }
     ensures survives { Lasts S.Store conn.old conn.new }

@@ -1,13 +1,14 @@
 //! A manifest is put, and a tag set to it.
-ghost use Rattle.std.specs.Prelude.{◌≡◌, ◌≤◌, true, length, find, None, Ok};
+ghost use Rattle.std.specs.Prelude.{◌≡◌, ◌<◌, ◌^◌, true, find, None, Ok};
 ghost use Rattle.sqlite.specs.State.{HasCleanDisk, KeepsCommit};
 ghost use Rattle.sqlite.specs.Held.{state};
 ghost use Rattle.oci_types.specs.Manifest.{shown, manifest_in};
 ghost use Rattle.oci_types.specs.Digest.{matches};
-ghost use Rattle.registry_model.specs.Ask.{text_in};
-ghost use Rattle.registry_model.specs.Limits.{largest_manifest};
+ghost use Rattle.registry_model.specs.Ask as ask;
 ghost use Rattle.registry_model.specs.Lookups.{put_manifest};
 ghost use Rattle.registry_model.specs.World.{has_repo};
+ghost use Rattle.store_contents.specs.Layouts.{Layout};
+ghost use Rattle.store_places.specs.Source.{Fits, IfBytes, Suits, size_in, text_in};
 ghost use Rattle.store_statements.specs.Keys.{has_key};
 ghost use Rattle.store_statements.specs.Registry.{is_repo};
 ghost use Rattle.store_writes.specs.Worlds.{KeepsWhole, TurnsFresh, TurnsThere, IsWhole, tagged};
@@ -21,6 +22,7 @@ use crate::changing::make;
 use oci_types::{Digest, Fault, Manifest, RepoName, Tag};
 use sqlite::{Alter, Connection, Transaction};
 use std::alloc::Global;
+use store_places::Source;
 use store_statements::contents::keep_matching;
 use store_statements::manifests::{add_manifest_link, find_manifest_link};
 use store_statements::tags::{add_tag, set_tag};
@@ -32,9 +34,9 @@ pub(crate) fn put_tag_if<S: Alter>(
     tag: Option<&Tag>,
     digest: &str,
 ) -> Result<(), Fault>
-    ensures made { TurnsThere S.Store tx.old.conn.now tx.new.conn.now result repo.now
-        (λ w. tagged w repo.now (text_in tag.entry) digest.now) }
-    ensures kept { KeepsWhole S.Store tx.old.conn.now tx.new.conn.now }
+    ensures made { (l : Layout) → TurnsThere S.Store l tx.old.conn.now tx.new.conn.now result repo.now
+        (λ w. tagged w repo.now (ask.text_in tag.entry) digest.now) }
+    ensures kept { (l : Layout) → KeepsWhole S.Store l tx.old.conn.now tx.new.conn.now }
     ensures same_reference { tx.new.conn.ghost_name ≡ tx.old.conn.ghost_name }
     ensures survives { LastsUncommitted S.Store tx.old.conn.now tx.new.conn.now }
 {
@@ -54,7 +56,7 @@ pub(crate) fn put_tag_if<S: Alter>(
 
 /// The digest of the manifest that this one refers to.
 fn subject_of(manifest: &Manifest) -> Option<&str>
-    ensures { text_in result ≡ manifest.now.subject }
+    ensures { ask.text_in result ≡ manifest.now.subject }
 {
     match &manifest.subject {
         Some(subject) => Some(subject.as_str()),
@@ -68,20 +70,23 @@ fn add_manifest<S: Alter>(
     tx: &mut Transaction<'_, S>,
     repo: &str,
     digest: &str,
-    bytes: &[u8],
+    source: Source<'_>,
     manifest: &Manifest,
 ) -> Result<(), Fault>
-    requires matching { matches digest.now bytes.now ≡ true }
-    requires reads { manifest_in bytes.now ≡ Ok (shown manifest.now) }
-    requires fits { length bytes.now ≤ largest_manifest }
-    ensures made { TurnsFresh S.Store tx.old.conn.now tx.new.conn.now result repo.now digest.now
-        (λ w. put_manifest w repo.now digest.now bytes.now None) }
-    ensures kept { KeepsWhole S.Store tx.old.conn.now tx.new.conn.now }
+    requires right { Fits source }
+    requires fits { size_in source < 2 ^ 63 }
+    requires matching { IfBytes (λ bytes. matches digest.now bytes ≡ true) source }
+    ensures made { (l : Layout) → Suits l source.entry
+        → manifest_in (text_in l source.entry) ≡ Ok (shown manifest.now)
+        → TurnsFresh S.Store l tx.old.conn.now tx.new.conn.now result repo.now digest.now
+        (λ w. put_manifest w repo.now digest.now (text_in l source.entry) None) }
+    ensures kept { (l : Layout) → Suits l source.entry
+        → KeepsWhole S.Store l tx.old.conn.now tx.new.conn.now }
     ensures same_reference { tx.new.conn.ghost_name ≡ tx.old.conn.ghost_name }
     ensures survives { LastsUncommitted S.Store tx.old.conn.now tx.new.conn.now }
 {
-    let content = keep_matching(alloc, tx, digest, bytes)?;
-    let size = bytes.len() as u64;
+    let content = keep_matching(alloc, tx, digest, source)?;
+    let size = source.len() as u64;
     add_manifest_link(
         tx,
         repo,
@@ -99,52 +104,66 @@ pub(crate) fn add_tagged<S: Alter>(
     tx: &mut Transaction<'_, S>,
     repo: &str,
     digest: &str,
-    bytes: &[u8],
+    source: Source<'_>,
     manifest: &Manifest,
     tag: Option<&Tag>,
 ) -> Result<(), Fault>
-    requires matching { matches digest.now bytes.now ≡ true }
-    requires reads { manifest_in bytes.now ≡ Ok (shown manifest.now) }
-    requires fits { length bytes.now ≤ largest_manifest }
-    ensures made { TurnsFresh S.Store tx.old.conn.now tx.new.conn.now result repo.now digest.now
-        (λ w. put_manifest w repo.now digest.now bytes.now (text_in tag.entry)) }
-    ensures kept { HasCleanDisk (state S.Store tx.new.conn.now) → IsWhole (state S.Store tx.old.conn.now)
-        → is_repo (held (state S.Store tx.old.conn.now)).repos repo.now ≡ true
-        → find (has_key repo.now digest.now) (held (state S.Store tx.old.conn.now)).manifests ≡ None
+    requires right { Fits source }
+    requires fits { size_in source < 2 ^ 63 }
+    requires matching { IfBytes (λ bytes. matches digest.now bytes ≡ true) source }
+    ensures made { (l : Layout) → Suits l source.entry
+        → manifest_in (text_in l source.entry) ≡ Ok (shown manifest.now)
+        → TurnsFresh S.Store l tx.old.conn.now tx.new.conn.now result repo.now digest.now
+        (λ w. put_manifest w repo.now digest.now (text_in l source.entry) (ask.text_in tag.entry)) }
+    ensures kept { (l : Layout) → Suits l source.entry
+        → manifest_in (text_in l source.entry) ≡ Ok (shown manifest.now)
+        → HasCleanDisk (state S.Store tx.new.conn.now) → IsWhole l (state S.Store tx.old.conn.now)
+        → is_repo (held l (state S.Store tx.old.conn.now)).repos repo.now ≡ true
+        → find (has_key repo.now digest.now) (held l (state S.Store tx.old.conn.now)).manifests ≡ None
         → KeepsCommit (state S.Store tx.old.conn.now) (state S.Store tx.new.conn.now) }
     ensures same_reference { tx.new.conn.ghost_name ≡ tx.old.conn.ghost_name }
     ensures survives { LastsUncommitted S.Store tx.old.conn.now tx.new.conn.now }
 {
-    add_manifest(alloc, tx, repo, digest, bytes, manifest)?;
+    add_manifest(alloc, tx, repo, digest, source, manifest)?;
     put_tag_if(tx, repo, tag, digest)
 }
 
 /// Adds a manifest, where the repository has not its digest, and sets the tag to it, if one is given.
-/// `manifest` is what the bytes read as; they are at most 4,194,304.
+/// `manifest` is what the bytes read as.
 pub fn put_manifest<S: Alter>(
     alloc: Global,
     conn: &mut Connection<S>,
     repo: &RepoName,
     digest: &Digest,
-    bytes: &[u8],
+    source: Source<'_>,
     manifest: &Manifest,
     tag: Option<&Tag>,
 ) -> Result<(), Fault>
-    requires matching { matches digest.now bytes.now ≡ true }
-    requires reads { manifest_in bytes.now ≡ Ok (shown manifest.now) }
-    requires fits { length bytes.now ≤ largest_manifest }
-    ensures made { WorldHas S.Store conn.old (λ w. has_repo w repo.now ≡ true)
-        → MakesWorld S.Store conn.old conn.new result
-        (λ w. put_manifest w repo.now digest.now bytes.now (text_in tag.entry)) }
-    ensures grows { WorldHas S.Store conn.old (λ w. has_repo w repo.now ≡ true)
-        → Relates S.Store conn.old conn.new result (λ t u. Grow t.contents u.contents) }
-    ensures memory { WorldHas S.Store conn.old (λ w. has_repo w repo.now ≡ true)
-        → StaysOnMemory S.Store conn.old conn.new result }
-    ensures back { WorldHas S.Store conn.old (λ w. has_repo w repo.now ≡ true)
-        → GoesBack S.Store conn.old conn.new result }
-    ensures crash { WorldHas S.Store conn.old (λ w. has_repo w repo.now ≡ true)
-        → CrashLeaves S.Store conn.old conn.new result
-        (λ w. put_manifest w repo.now digest.now bytes.now (text_in tag.entry)) }
+    requires right { Fits source }
+    requires fits { size_in source < 2 ^ 63 }
+    requires matching { IfBytes (λ bytes. matches digest.now bytes ≡ true) source }
+    ensures made { (l : Layout) → Suits l source.entry
+        → manifest_in (text_in l source.entry) ≡ Ok (shown manifest.now)
+        → WorldHas S.Store l conn.old (λ w. has_repo w repo.now ≡ true)
+        → MakesWorld S.Store l conn.old conn.new result
+        (λ w. put_manifest w repo.now digest.now (text_in l source.entry) (ask.text_in tag.entry)) }
+    ensures grows { (l : Layout) → Suits l source.entry
+        → manifest_in (text_in l source.entry) ≡ Ok (shown manifest.now)
+        → WorldHas S.Store l conn.old (λ w. has_repo w repo.now ≡ true)
+        → Relates S.Store l conn.old conn.new result (λ t u. Grow t.contents u.contents) }
+    ensures memory { (l : Layout) → Suits l source.entry
+        → manifest_in (text_in l source.entry) ≡ Ok (shown manifest.now)
+        → WorldHas S.Store l conn.old (λ w. has_repo w repo.now ≡ true)
+        → StaysOnMemory S.Store l conn.old conn.new result }
+    ensures back { (l : Layout) → Suits l source.entry
+        → manifest_in (text_in l source.entry) ≡ Ok (shown manifest.now)
+        → WorldHas S.Store l conn.old (λ w. has_repo w repo.now ≡ true)
+        → GoesBack S.Store l conn.old conn.new result }
+    ensures crash { (l : Layout) → Suits l source.entry
+        → manifest_in (text_in l source.entry) ≡ Ok (shown manifest.now)
+        → WorldHas S.Store l conn.old (λ w. has_repo w repo.now ≡ true)
+        → CrashLeaves S.Store l conn.old conn.new result
+        (λ w. put_manifest w repo.now digest.now (text_in l source.entry) (ask.text_in tag.entry)) }
     ensures survives { Lasts S.Store conn.old conn.new }
 {
     let repo = repo.as_str();
@@ -157,7 +176,7 @@ pub fn put_manifest<S: Alter>(
                 alloc,
                 repo,
                 digest,
-                bytes,
+                source,
                 manifest,
                 tag,
             },

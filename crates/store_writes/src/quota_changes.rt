@@ -1,6 +1,7 @@
 //! A repository is made, or its quota is set.
 ghost use Rattle.std.specs.Prelude.{◌≡◌, ◌<◌, ◌^◌};
 ghost use Rattle.registry_model.specs.Command.{set_repo};
+ghost use Rattle.store_contents.specs.Layouts.{Layout};
 ghost use Rattle.store_statements.specs.Between.{CrashLeaves, GoesBack, MakesWorld, Relates, StaysOnMemory};
 ghost use Rattle.store_statements.specs.Clauses.{KeepsInside, Lasts, LastsUncommitted, StepsInside};
 ghost use Rattle.store_writes.specs.Puts.{QuotaIsPut};
@@ -19,9 +20,9 @@ pub(crate) fn put_quota<S: Alter>(
     quota: u64,
 ) -> Result<(), Fault>
     requires fits { quota < 2 ^ 63 }
-    ensures put { StepsInside S.Store tx.old.conn.now tx.new.conn.now result
+    ensures put { (l : Layout) → StepsInside S.Store l tx.old.conn.now tx.new.conn.now result
         (λ t u. QuotaIsPut t u name.now quota) }
-    ensures kept { KeepsInside S.Store tx.old.conn.now tx.new.conn.now }
+    ensures kept { (l : Layout) → KeepsInside S.Store l tx.old.conn.now tx.new.conn.now }
     ensures same_reference { tx.new.conn.ghost_name ≡ tx.old.conn.ghost_name }
     ensures survives { LastsUncommitted S.Store tx.old.conn.now tx.new.conn.now }
 {
@@ -40,11 +41,14 @@ pub fn set_repo<S: Alter>(
     name: &RepoName,
     quota: Quota,
 ) -> Result<(), Fault>
-    ensures made { MakesWorld S.Store conn.old conn.new result (λ w. set_repo w name.now quota.bytes) }
-    ensures stays { Relates S.Store conn.old conn.new result (λ t u. u.contents ≡ t.contents) }
-    ensures memory { StaysOnMemory S.Store conn.old conn.new result }
-    ensures back { GoesBack S.Store conn.old conn.new result }
-    ensures crash { CrashLeaves S.Store conn.old conn.new result (λ w. set_repo w name.now quota.bytes) }
+    ensures made { (l : Layout)
+        → MakesWorld S.Store l conn.old conn.new result (λ w. set_repo w name.now quota.bytes) }
+    ensures stays { (l : Layout)
+        → Relates S.Store l conn.old conn.new result (λ t u. u.contents ≡ t.contents) }
+    ensures memory { (l : Layout) → StaysOnMemory S.Store l conn.old conn.new result }
+    ensures back { (l : Layout) → GoesBack S.Store l conn.old conn.new result }
+    ensures crash { (l : Layout)
+        → CrashLeaves S.Store l conn.old conn.new result (λ w. set_repo w name.now quota.bytes) }
     ensures survives { Lasts S.Store conn.old conn.new }
 {
     make(

@@ -1,7 +1,9 @@
 //! Bytes come behind those of an open upload session.
-ghost use Rattle.std.specs.Prelude.{◌≡◌, ◌<◌, ◌+◌, ◌^◌, true, length, find, is_some, None, Some, Ok, Err, IfOk, IfErr, IfSome};
+ghost use Rattle.std.specs.Prelude.{◌≡◌, ◌<◌, ◌+◌, ◌^◌, true, find, is_some, None, Some, Ok, Err, IfOk, IfErr, IfSome};
 ghost use Rattle.sha2.specs.Sha256.{sha256};
 ghost use Rattle.registry_model.specs.Lookups.{append, session_at};
+ghost use Rattle.store_contents.specs.Layouts.{Layout};
+ghost use Rattle.store_places.specs.Source.{Fits, IfBytes, Suits, size_in, text_in};
 ghost use Rattle.store_statements.specs.Keys.{has_start};
 ghost use Rattle.store_statements.specs.StepsFrom.{StepsFrom};
 ghost use Rattle.store_statements.specs.Changes.{Grow};
@@ -15,6 +17,7 @@ use crate::session_change::SessionChange;
 use oci_types::{Fault, RepoName};
 use sqlite::{Alter, Connection, Transaction};
 use std::alloc::Global;
+use store_places::Source;
 use store_statements::contents::keep_with;
 use store_statements::numbers::{LARGEST, has_room};
 use store_statements::pieces::add_piece;
@@ -27,22 +30,25 @@ pub(crate) fn add_bytes<S: Alter>(
     repo: &str,
     number: u64,
     size: u64,
-    bytes: &[u8],
+    source: Source<'_>,
     hash: Option<[u8; 32]>,
 ) -> Result<(), Fault>
-    requires hashed { IfSome hash (λ h. h ≡ sha256 bytes.now) }
+    requires suits { Fits source }
+    requires hashed { IfBytes (λ bytes. IfSome hash (λ h. h ≡ sha256 bytes)) source }
     requires number_fits { number < 2 ^ 63 }
-    requires fits { size + length bytes.now < 2 ^ 63 }
-    ensures appended { StepsFrom S.Store tx.old.conn.now tx.new.conn.now result
+    requires fits { size + size_in source < 2 ^ 63 }
+    ensures appended { (l : Layout) → Suits l source.entry
+        → StepsFrom S.Store l tx.old.conn.now tx.new.conn.now result
         (λ t. find (has_start repo.now number size) t.pieces ≡ None)
-        (λ t u. Appended t u repo.now number size bytes.now) }
-    ensures kept { KeepsInside S.Store tx.old.conn.now tx.new.conn.now }
+        (λ t u. Appended t u repo.now number size (text_in l source.entry)) }
+    ensures kept { (l : Layout) → Suits l source.entry
+        → KeepsInside S.Store l tx.old.conn.now tx.new.conn.now }
     ensures same_reference { tx.new.conn.ghost_name ≡ tx.old.conn.ghost_name }
     ensures survives { LastsUncommitted S.Store tx.old.conn.now tx.new.conn.now }
 {
-    match set_size(tx, repo, number, size + bytes.len() as u64) {
-        Ok(_) => match keep_with(alloc, tx, hash, bytes) {
-            Ok(content) => add_piece(tx, repo, number, size, bytes.len() as u64, content),
+    match set_size(tx, repo, number, size + source.len() as u64) {
+        Ok(_) => match keep_with(alloc, tx, hash, source) {
+            Ok(content) => add_piece(tx, repo, number, size, source.len() as u64, content),
             Err(fault) => Err(fault),
         },
         Err(fault) => Err(fault),
@@ -69,28 +75,33 @@ pub fn append<S: Alter>(
     conn: &mut Connection<S>,
     repo: &RepoName,
     number: u64,
-    bytes: &[u8],
+    source: Source<'_>,
     hash: Option<[u8; 32]>,
 ) -> Result<(), Fault>
-    requires hashed { IfSome hash (λ h. h ≡ sha256 bytes.now) }
-    ensures made { WorldHas S.Store conn.old (λ w. is_some (session_at w repo.now number) ≡ true)
-        → MakesWorld S.Store conn.old conn.new result (λ w. append w repo.now number bytes.now) }
-    ensures grows { Relates S.Store conn.old conn.new result (λ t u. Grow t.contents u.contents) }
-    ensures memory { StaysOnMemory S.Store conn.old conn.new result }
-    ensures back { GoesBack S.Store conn.old conn.new result }
-    ensures crash { WorldHas S.Store conn.old (λ w. is_some (session_at w repo.now number) ≡ true)
-        → CrashLeaves S.Store conn.old conn.new result
-        (λ w. append w repo.now number bytes.now) }
+    requires fits { Fits source }
+    requires hashed { IfBytes (λ bytes. IfSome hash (λ h. h ≡ sha256 bytes)) source }
+    ensures made { (l : Layout) → Suits l source.entry
+        → WorldHas S.Store l conn.old (λ w. is_some (session_at w repo.now number) ≡ true)
+        → MakesWorld S.Store l conn.old conn.new result
+        (λ w. append w repo.now number (text_in l source.entry)) }
+    ensures grows { (l : Layout) → Suits l source.entry
+        → Relates S.Store l conn.old conn.new result (λ t u. Grow t.contents u.contents) }
+    ensures memory { (l : Layout) → Suits l source.entry → StaysOnMemory S.Store l conn.old conn.new result }
+    ensures back { (l : Layout) → Suits l source.entry → GoesBack S.Store l conn.old conn.new result }
+    ensures crash { (l : Layout) → Suits l source.entry
+        → WorldHas S.Store l conn.old (λ w. is_some (session_at w repo.now number) ≡ true)
+        → CrashLeaves S.Store l conn.old conn.new result
+        (λ w. append w repo.now number (text_in l source.entry)) }
     ensures survives { Lasts S.Store conn.old conn.new }
 {
-    if bytes.is_empty() {
+    if source.len() == 0 {
         return Ok(());
     }
     if number > LARGEST {
         return Err(Fault::Storage);
     }
     let repo = repo.as_str();
-    match with_room(find_upload(conn, repo, number), bytes.len() as u64) {
+    match with_room(find_upload(conn, repo, number), source.len() as u64) {
         Ok(size) => make(
             conn,
             Change::Session(SessionChange::Append {
@@ -98,7 +109,7 @@ pub fn append<S: Alter>(
                 repo,
                 number,
                 size,
-                bytes,
+                source,
                 hash,
             }),
         ),

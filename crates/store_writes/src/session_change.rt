@@ -1,6 +1,7 @@
 //! What a change of upload sessions is, as a value.
 
 use std::alloc::Global;
+use store_places::Source;
 use store_statements::blobs::BlobLink;
 
 /// What one transaction makes of upload sessions.
@@ -17,7 +18,7 @@ pub(crate) enum SessionChange<'a> {
         repo: &'a str,
         number: u64,
         size: u64,
-        bytes: &'a [u8],
+        source: Source<'a>,
         hash: Option<[u8; 32]>,
     },
     /// A session ends, and a blob comes that the repository has not.
@@ -26,7 +27,7 @@ pub(crate) enum SessionChange<'a> {
         repo: &'a str,
         number: u64,
         digest: &'a str,
-        bytes: &'a [u8],
+        source: Source<'a>,
     },
     /// A session ends, and a link to its content comes that the repository has not.
     Link {

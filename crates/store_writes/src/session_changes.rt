@@ -4,6 +4,7 @@ ghost use Rattle.sqlite.specs.State.{HasCleanDisk};
 ghost use Rattle.sqlite.specs.Held.{state};
 ghost use Rattle.registry_model.specs.Lookups.{open_session, last_number_at};
 ghost use Rattle.registry_model.specs.Command.{drop_sessions};
+ghost use Rattle.store_contents.specs.Layouts.{Layout};
 ghost use Rattle.store_statements.specs.Keys.{of_first, of_session};
 ghost use Rattle.store_statements.specs.StepsFrom.{StepsFrom};
 ghost use Rattle.store_statements.specs.Between.{CrashLeaves, GoesBack, MakesWorld, Relates, StaysOnMemory};
@@ -23,9 +24,9 @@ use store_statements::uploads::{add_upload, take_upload, take_uploads};
 
 /// Takes all sessions of the repository out, with their pieces.
 pub(crate) fn take_sessions<S: Alter>(tx: &mut Transaction<'_, S>, repo: &str) -> Result<(), Fault>
-    ensures taken { Changes S.Store tx.old.conn.now tx.new.conn.now result
+    ensures taken { (l : Layout) → Changes S.Store l tx.old.conn.now tx.new.conn.now result
         (sessions_without (of_first repo.now)) }
-    ensures kept { KeepsInside S.Store tx.old.conn.now tx.new.conn.now }
+    ensures kept { (l : Layout) → KeepsInside S.Store l tx.old.conn.now tx.new.conn.now }
     ensures same_reference { tx.new.conn.ghost_name ≡ tx.old.conn.ghost_name }
     ensures survives { LastsUncommitted S.Store tx.old.conn.now tx.new.conn.now }
 {
@@ -37,11 +38,14 @@ pub(crate) fn take_sessions<S: Alter>(tx: &mut Transaction<'_, S>, repo: &str) -
 
 /// Ends all upload sessions of the repository; their bytes are given up.
 pub fn drop_sessions<S: Alter>(conn: &mut Connection<S>, repo: &RepoName) -> Result<(), Fault>
-    ensures made { MakesWorld S.Store conn.old conn.new result (λ w. drop_sessions w repo.now) }
-    ensures stays { Relates S.Store conn.old conn.new result (λ t u. u.contents ≡ t.contents) }
-    ensures memory { StaysOnMemory S.Store conn.old conn.new result }
-    ensures back { GoesBack S.Store conn.old conn.new result }
-    ensures crash { CrashLeaves S.Store conn.old conn.new result (λ w. drop_sessions w repo.now) }
+    ensures made { (l : Layout)
+        → MakesWorld S.Store l conn.old conn.new result (λ w. drop_sessions w repo.now) }
+    ensures stays { (l : Layout)
+        → Relates S.Store l conn.old conn.new result (λ t u. u.contents ≡ t.contents) }
+    ensures memory { (l : Layout) → StaysOnMemory S.Store l conn.old conn.new result }
+    ensures back { (l : Layout) → GoesBack S.Store l conn.old conn.new result }
+    ensures crash { (l : Layout)
+        → CrashLeaves S.Store l conn.old conn.new result (λ w. drop_sessions w repo.now) }
     ensures survives { Lasts S.Store conn.old conn.new }
 {
     let repo = repo.as_str();
@@ -55,9 +59,9 @@ pub(crate) fn take_session<S: Alter>(
     number: u64,
 ) -> Result<(), Fault>
     requires fits { number < 2 ^ 63 }
-    ensures taken { Changes S.Store tx.old.conn.now tx.new.conn.now result
+    ensures taken { (l : Layout) → Changes S.Store l tx.old.conn.now tx.new.conn.now result
         (sessions_without (of_session repo.now number)) }
-    ensures kept { KeepsInside S.Store tx.old.conn.now tx.new.conn.now }
+    ensures kept { (l : Layout) → KeepsInside S.Store l tx.old.conn.now tx.new.conn.now }
     ensures same_reference { tx.new.conn.ghost_name ≡ tx.old.conn.ghost_name }
     ensures survives { LastsUncommitted S.Store tx.old.conn.now tx.new.conn.now }
 {
@@ -74,9 +78,9 @@ pub(crate) fn add_session<S: Alter>(
     number: u64,
 ) -> Result<(), Fault>
     requires fits { number < 2 ^ 63 }
-    ensures opened { StepsFrom S.Store tx.old.conn.now tx.new.conn.now result
+    ensures opened { (l : Layout) → StepsFrom S.Store l tx.old.conn.now tx.new.conn.now result
         (λ t. find (of_session repo.now number) t.uploads ≡ None) (λ t u. SessionOpened t u repo.now number) }
-    ensures kept { KeepsInside S.Store tx.old.conn.now tx.new.conn.now }
+    ensures kept { (l : Layout) → KeepsInside S.Store l tx.old.conn.now tx.new.conn.now }
     ensures same_reference { tx.new.conn.ghost_name ≡ tx.old.conn.ghost_name }
     ensures survives { LastsUncommitted S.Store tx.old.conn.now tx.new.conn.now }
 {
@@ -88,14 +92,16 @@ pub(crate) fn add_session<S: Alter>(
 
 /// Opens an empty session under the number behind the repository's last, and answers it.
 pub fn open_session<S: Alter>(conn: &mut Connection<S>, repo: &RepoName) -> Result<u64, Fault>
-    ensures made { HasCleanDisk (state S.Store conn.new) → IsSettled (state S.Store conn.old)
+    ensures made { (l : Layout) → HasCleanDisk (state S.Store conn.new) → IsSettled l (state S.Store conn.old)
         → IfOk result
-        (λ n. (n ≡ last_number_at (world_in (state S.Store conn.old)) repo.now + 1) × SettlesOn
-        (state S.Store conn.new) (open_session (world_in (state S.Store conn.old)) repo.now)) }
-    ensures stays { Relates S.Store conn.old conn.new result (λ t u. u.contents ≡ t.contents) }
-    ensures memory { StaysOnMemory S.Store conn.old conn.new result }
-    ensures back { GoesBack S.Store conn.old conn.new result }
-    ensures crash { CrashLeaves S.Store conn.old conn.new result (λ w. open_session w repo.now) }
+        (λ n. (n ≡ last_number_at (world_in l (state S.Store conn.old)) repo.now + 1) × SettlesOn l
+        (state S.Store conn.new) (open_session (world_in l (state S.Store conn.old)) repo.now)) }
+    ensures stays { (l : Layout)
+        → Relates S.Store l conn.old conn.new result (λ t u. u.contents ≡ t.contents) }
+    ensures memory { (l : Layout) → StaysOnMemory S.Store l conn.old conn.new result }
+    ensures back { (l : Layout) → GoesBack S.Store l conn.old conn.new result }
+    ensures crash { (l : Layout)
+        → CrashLeaves S.Store l conn.old conn.new result (λ w. open_session w repo.now) }
     ensures survives { Lasts S.Store conn.old conn.new }
 {
     let repo = repo.as_str();

@@ -1,8 +1,9 @@
 //! What a change of upload sessions is inside a transaction.
 ghost use Rattle.std.specs.Prelude.{◌≡◌};
+ghost use Rattle.store_contents.specs.Layouts.{Layout};
 ghost use Rattle.store_statements.specs.Clauses.{KeepsInside, LastsUncommitted};
 ghost use Rattle.store_statements.specs.StepsFrom.{StepsFrom};
-ghost use Rattle.store_writes.specs.SessionChanging.{SessionAsks, SessionFits, SessionMakes};
+ghost use Rattle.store_writes.specs.SessionChanging.{SessionAsks, SessionFits, SessionMakes, SessionSuits};
 
 use crate::known_finish::end_whole;
 use crate::session_appends::add_bytes;
@@ -18,9 +19,11 @@ pub(crate) fn change_session<S: Alter>(
     change: SessionChange<'_>,
 ) -> Result<(), Fault>
     requires fits { SessionFits change }
-    ensures made { StepsFrom S.Store tx.old.conn.now tx.new.conn.now result (SessionAsks change.entry)
-        (SessionMakes change.entry) }
-    ensures kept { KeepsInside S.Store tx.old.conn.now tx.new.conn.now }
+    ensures made { (l : Layout) → SessionSuits l change.entry
+        → StepsFrom S.Store l tx.old.conn.now tx.new.conn.now result (SessionAsks change.entry)
+        (SessionMakes l change.entry) }
+    ensures kept { (l : Layout) → SessionSuits l change.entry
+        → KeepsInside S.Store l tx.old.conn.now tx.new.conn.now }
     ensures same_reference { tx.new.conn.ghost_name ≡ tx.old.conn.ghost_name }
     ensures survives { LastsUncommitted S.Store tx.old.conn.now tx.new.conn.now }
 {
@@ -31,16 +34,16 @@ pub(crate) fn change_session<S: Alter>(
             repo,
             number,
             size,
-            bytes,
+            source,
             hash,
-        } => add_bytes(alloc, tx, repo, number, size, bytes, hash),
+        } => add_bytes(alloc, tx, repo, number, size, source, hash),
         SessionChange::Finish {
             alloc,
             repo,
             number,
             digest,
-            bytes,
-        } => end_session(alloc, tx, repo, number, digest, bytes),
+            source,
+        } => end_session(alloc, tx, repo, number, digest, source),
         SessionChange::Link {
             repo,
             number,

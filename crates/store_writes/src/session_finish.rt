@@ -1,8 +1,9 @@
 //! An upload session ends, and its bytes become a blob.
 ghost use Rattle.std.specs.Prelude.{◌≡◌, ◌≤◌, ◌<◌, ◌^◌, true, length, find, is_some, None};
 ghost use Rattle.oci_types.specs.Digest.{matches};
-ghost use Rattle.registry_model.specs.Limits.{largest_blob};
 ghost use Rattle.registry_model.specs.Lookups.{finish, session_at};
+ghost use Rattle.store_contents.specs.Layouts.{Layout};
+ghost use Rattle.store_places.specs.Source.{Fits, IfBytes, Suits, size_in, text_in};
 ghost use Rattle.store_statements.specs.Keys.{has_key};
 ghost use Rattle.store_statements.specs.StepsFrom.{StepsFrom};
 ghost use Rattle.store_statements.specs.Changes.{Grow};
@@ -17,6 +18,7 @@ use crate::session_changes::take_session;
 use oci_types::{Digest, Fault, RepoName};
 use sqlite::{Alter, Connection, Transaction};
 use std::alloc::Global;
+use store_places::Source;
 use store_statements::blob_storing::store_blob;
 use store_statements::blobs::find_blob_link;
 use store_statements::numbers::LARGEST;
@@ -28,20 +30,23 @@ pub(crate) fn end_session<S: Alter>(
     repo: &str,
     number: u64,
     digest: &str,
-    bytes: &[u8],
+    source: Source<'_>,
 ) -> Result<(), Fault>
     requires number_fits { number < 2 ^ 63 }
-    requires matching { matches digest.now bytes.now ≡ true }
-    requires fits { length bytes.now < 2 ^ 63 }
-    ensures finished { StepsFrom S.Store tx.old.conn.now tx.new.conn.now result
+    requires right { Fits source }
+    requires fits { size_in source < 2 ^ 63 }
+    requires matching { IfBytes (λ bytes. matches digest.now bytes ≡ true) source }
+    ensures finished { (l : Layout) → Suits l source.entry
+        → StepsFrom S.Store l tx.old.conn.now tx.new.conn.now result
         (λ t. find (has_key repo.now digest.now) t.blobs ≡ None)
-        (λ t u. Finished t u repo.now number digest.now bytes.now) }
-    ensures kept { KeepsInside S.Store tx.old.conn.now tx.new.conn.now }
+        (λ t u. Finished t u repo.now number digest.now (text_in l source.entry)) }
+    ensures kept { (l : Layout) → Suits l source.entry
+        → KeepsInside S.Store l tx.old.conn.now tx.new.conn.now }
     ensures same_reference { tx.new.conn.ghost_name ≡ tx.old.conn.ghost_name }
     ensures survives { LastsUncommitted S.Store tx.old.conn.now tx.new.conn.now }
 {
     match take_session(tx, repo, number) {
-        Ok(()) => store_blob(alloc, tx, repo, digest, bytes),
+        Ok(()) => store_blob(alloc, tx, repo, digest, source),
         Err(fault) => Err(fault),
     }
 }
@@ -53,19 +58,23 @@ pub fn finish<S: Alter>(
     repo: &RepoName,
     number: u64,
     digest: &Digest,
-    bytes: &[u8],
+    source: Source<'_>,
 ) -> Result<(), Fault>
-    requires matching { matches digest.now bytes.now ≡ true }
-    requires fits { length bytes.now ≤ largest_blob }
-    ensures made { WorldHas S.Store conn.old (λ w. is_some (session_at w repo.now number) ≡ true)
-        → MakesWorld S.Store conn.old conn.new result
-        (λ w. finish w repo.now number digest.now bytes.now) }
-    ensures grows { Relates S.Store conn.old conn.new result (λ t u. Grow t.contents u.contents) }
-    ensures memory { StaysOnMemory S.Store conn.old conn.new result }
-    ensures back { GoesBack S.Store conn.old conn.new result }
-    ensures crash { WorldHas S.Store conn.old (λ w. is_some (session_at w repo.now number) ≡ true)
-        → CrashLeaves S.Store conn.old conn.new result
-        (λ w. finish w repo.now number digest.now bytes.now) }
+    requires right { Fits source }
+    requires fits { size_in source < 2 ^ 63 }
+    requires matching { IfBytes (λ bytes. matches digest.now bytes ≡ true) source }
+    ensures made { (l : Layout) → Suits l source.entry
+        → WorldHas S.Store l conn.old (λ w. is_some (session_at w repo.now number) ≡ true)
+        → MakesWorld S.Store l conn.old conn.new result
+        (λ w. finish w repo.now number digest.now (text_in l source.entry)) }
+    ensures grows { (l : Layout) → Suits l source.entry
+        → Relates S.Store l conn.old conn.new result (λ t u. Grow t.contents u.contents) }
+    ensures memory { (l : Layout) → Suits l source.entry → StaysOnMemory S.Store l conn.old conn.new result }
+    ensures back { (l : Layout) → Suits l source.entry → GoesBack S.Store l conn.old conn.new result }
+    ensures crash { (l : Layout) → Suits l source.entry
+        → WorldHas S.Store l conn.old (λ w. is_some (session_at w repo.now number) ≡ true)
+        → CrashLeaves S.Store l conn.old conn.new result
+        (λ w. finish w repo.now number digest.now (text_in l source.entry)) }
     ensures survives { Lasts S.Store conn.old conn.new }
 {
     if number > LARGEST {
@@ -82,7 +91,7 @@ pub fn finish<S: Alter>(
                 repo,
                 number,
                 digest,
-                bytes,
+                source,
             }),
         ),
         Err(fault) => Err(fault),

@@ -1,5 +1,6 @@
 //! Upload sessions of one piece: their bytes are those of one content, whose digest is known unread.
 ghost use Rattle.std.specs.Prelude.{◌≡◌, ◌<◌, ◌^◌, MatchResult, if◌then◌else◌, Some, None, Ok, Err};
+ghost use Rattle.store_contents.specs.Layouts.{Layout, InTables};
 ghost use Rattle.store_statements.specs.Between.{Finds, Keeps, Stays};
 ghost use Rattle.store_statements.specs.Clauses.{Lasts};
 ghost use Rattle.store_writes.specs.Whole.{only_link, whole_link, known_link};
@@ -45,9 +46,10 @@ fn find_whole<S: Alter>(
     number: u64,
 ) -> Result<Option<BlobLink>, Fault>
     requires fits { number < 2 ^ 63 }
-    ensures found { Finds S.Store conn.old conn.new result (λ t o. o ≡ whole_link t repo.now number) }
-    ensures settled { Stays S.Store conn.old conn.new result }
-    ensures kept { Keeps S.Store conn.old conn.new }
+    ensures found { (l : Layout)
+        → Finds S.Store l conn.old conn.new result (λ t o. o ≡ whole_link t repo.now number) }
+    ensures settled { (l : Layout) → Stays S.Store l conn.old conn.new result }
+    ensures kept { (l : Layout) → Keeps S.Store l conn.old conn.new }
     ensures survives { Lasts S.Store conn.old conn.new }
 {
     match find_upload(conn, repo, number) {
@@ -79,10 +81,10 @@ pub(crate) fn find_known<S: Alter>(
     digest: &str,
 ) -> Result<Option<BlobLink>, Fault>
     requires fits { number < 2 ^ 63 }
-    ensures found { Finds S.Store conn.old conn.new result
+    ensures found { Finds S.Store InTables conn.old conn.new result
         (λ t o. o ≡ known_link t repo.now number digest.now) }
-    ensures settled { Stays S.Store conn.old conn.new result }
-    ensures kept { Keeps S.Store conn.old conn.new }
+    ensures settled { Stays S.Store InTables conn.old conn.new result }
+    ensures kept { Keeps S.Store InTables conn.old conn.new }
     ensures survives { Lasts S.Store conn.old conn.new }
 {
     match find_whole(alloc, conn, repo, number) {

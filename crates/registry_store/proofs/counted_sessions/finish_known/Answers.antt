@@ -4,6 +4,7 @@ use Rattle.registry_model.specs.World.{Repo}
 use Rattle.registry_model.specs.Sessions.{finished}
 use Rattle.registry_model.specs.Lookups.{session_at, bytes_or_none}
 use Rattle.registry_model.specs.Closing.{session_matches, finish_as_is}
+use Rattle.store_contents.specs.Layouts.{InTables}
 use Rattle.store_statements.specs.Held.{world_in}
 use Rattle.store_writes.specs.Whole.{DoneWhereSo}
 use Rattle.store_reads.proofs.CleanBefore.{was_clean}
@@ -23,9 +24,9 @@ returns-in-Ok-Some g c =
       crash = λ clean is. rw c.in-Ok-Some.field-0-is at (c.in-Ok-Some.ensures.crash clean is);
       survives = c.finish_known.ensures.survives;
       known = λ known clean is sound.
-          let w = world_in old in
+          let w = world_in InTables old in
           let early = was_clean old new c.finish_known.ensures.survives clean in
-          let made : DoneWhereSo true old new (λ w. session_matches w c.args.repo.now c.args.number c.args.digest.now) (λ w. finish_as_is w c.args.repo.now c.args.number c.args.digest.now) = rw c.in-Ok-Some.field-0-is at (c.in-Ok-Some.ensures.made clean is) in
+          let made : DoneWhereSo InTables true old new (λ w. session_matches w c.args.repo.now c.args.number c.args.digest.now) (λ w. finish_as_is w c.args.repo.now c.args.number c.args.digest.now) = rw c.in-Ok-Some.field-0-is at (c.in-Ok-Some.ensures.made clean is) in
           let told = rw c.in-Ok-Some.field-0-is at (c.in-Ok-Some.ensures.ended clean is) in
           follows c.args.known.now c.follow.new.self new w c.args.repo.now (λ (r : Repo). finished r c.args.number c.args.digest.now (bytes_or_none (session_at w c.args.repo.now c.args.number))) (Some c.known_end_change.result) (known early)
           (session_has_repo w c.args.repo.now c.args.number (was_open w c.args.repo.now c.args.number c.args.digest.now made.0))
@@ -43,7 +44,7 @@ returns-in-Ok-None g c =
       survives = c.finish_known.ensures.survives;
       known = λ known clean is sound.
           let stays = rw c.in-Ok-None.field-0-is at (c.in-Ok-None.ensures.made clean is) in
-          later (Knows c.args.known.now) old new stays.1 (known (was_clean old new c.finish_known.ensures.survives clean));
+          later InTables (Knows c.args.known.now) old new stays.1 (known (was_clean old new c.finish_known.ensures.survives clean));
     }
 
 pub returns-in-Err : goal.returns-in-Err

@@ -1,5 +1,6 @@
 use Rattle.std.proofs.Common.{◌≡◌, ◌∙◌, true, false, not, is_some, refl, sym, ap}
 use Rattle.sqlite.specs.Held.{state}
+use Rattle.store_contents.specs.Layouts.{InTables}
 use Rattle.store_statements.specs.Held.{world_in}
 use Rattle.store_statements.proofs.Checks.{survives_here}
 use Rattle.store_statements.proofs.Crashes.{kept_stayed}
@@ -21,7 +22,7 @@ returns-then-is_none g c = record {
 pub returns : goal.returns
 returns g c = record {
   found = λ clean is.
-      let w = world_in (state g.S.Store c.args.conn.now) in
+      let w = world_in InTables (state g.S.Store c.args.conn.now) in
       rw c.or_untold.ensures (if_told c.look_up.result (Foretells w c.args.repo.now (becomes c.args.write c.args.repo.now w)) (c.look_up.ensures.found clean is));
   unasked = λ none.
       let bad : true ≡ false = sym (c.is_none.ensures ∙ ap not c.if-is_none.false) ∙ ap is_some (c.usage.ensures ∙ none) in

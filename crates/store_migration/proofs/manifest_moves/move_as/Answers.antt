@@ -3,6 +3,7 @@ use Rattle.std.specs.Prelude.{option_map}
 use Rattle.sqlite.specs.State.{HasCleanDisk}
 use Rattle.sqlite.specs.Held.{state}
 use Rattle.store_schema.proofs.Selects.{commit_then, survives_both}
+use Rattle.store_contents.specs.Layouts.{InTables}
 use Rattle.store_statements.specs.Held.{held}
 use Rattle.store_statements.proofs.CleanBefore.{was_clean}
 use Rattle.store_migration.proofs.ManifestSteps.{free_after, moved_then}
@@ -20,11 +21,11 @@ returns-in-Ok-add_manifest_link g c =
       moved = λ clean is under found.
           let kept = c.in-Ok.ensures.content (clean-1 (clean-2 clean)) is in
           moved_then old mid late new c.in-Ok.content.id c.args.repo.now c.args.digest.now c.args.bytes.now c.args.kind (option_map (λ text. text.now) c.args.subject) c.take_manifest.result c.requires.of_kind c.requires.of_subject under found kept.1
-          (c.in-Ok-add_manifest_link.ensures.added (clean-2 clean) kept.0 (free_after (held old) (held mid) c.args.repo.now c.args.digest.now c.args.bytes.now c.in-Ok.content.id under found kept.1)) (c.take_manifest.ensures.taken clean);
+          (c.in-Ok-add_manifest_link.ensures.added InTables (clean-2 clean) kept.0 (free_after (held InTables old) (held InTables mid) c.args.repo.now c.args.digest.now c.args.bytes.now c.in-Ok.content.id under found kept.1)) (c.take_manifest.ensures.taken clean);
       kept = λ clean is under found.
           let kept = c.in-Ok.ensures.content (clean-1 (clean-2 clean)) is in
-          let came = c.in-Ok-add_manifest_link.ensures.added (clean-2 clean) kept.0 (free_after (held old) (held mid) c.args.repo.now c.args.digest.now c.args.bytes.now c.in-Ok.content.id under found kept.1) in
-          commit_then old late new (commit_then old mid late (c.keep.ensures.kept (clean-1 (clean-2 clean)) is) (c.add_manifest_link.ensures.kept (clean-2 clean) kept.0)) (c.take_manifest.ensures.kept clean came.ready);
+          let came = c.in-Ok-add_manifest_link.ensures.added InTables (clean-2 clean) kept.0 (free_after (held InTables old) (held InTables mid) c.args.repo.now c.args.digest.now c.args.bytes.now c.in-Ok.content.id under found kept.1) in
+          commit_then old late new (commit_then old mid late (c.keep.ensures.kept (clean-1 (clean-2 clean)) is) (c.add_manifest_link.ensures.kept InTables (clean-2 clean) kept.0)) (c.take_manifest.ensures.kept clean came.ready);
       same_reference = c.take_manifest.ensures.same_reference ∙ c.add_manifest_link.ensures.same_reference ∙ c.keep.ensures.same_reference;
       survives = survives_both old late new (survives_both old mid late c.keep.ensures.survives c.add_manifest_link.ensures.survives) c.take_manifest.ensures.survives;
     }
@@ -38,7 +39,7 @@ returns-in-Err-add_manifest_link g c =
       moved = λ clean is under found. tt;
       kept = λ clean is under found.
           let early : HasCleanDisk mid = was_clean c.add_manifest_link.ensures.survives clean in
-          commit_then old mid new (c.keep.ensures.kept early is) (c.add_manifest_link.ensures.kept clean (c.in-Ok.ensures.content early is).0);
+          commit_then old mid new (c.keep.ensures.kept early is) (c.add_manifest_link.ensures.kept InTables clean (c.in-Ok.ensures.content early is).0);
       same_reference = c.add_manifest_link.ensures.same_reference ∙ c.keep.ensures.same_reference;
       survives = survives_both old mid new c.keep.ensures.survives c.add_manifest_link.ensures.survives;
     }

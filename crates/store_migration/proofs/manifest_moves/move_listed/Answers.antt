@@ -4,6 +4,7 @@ use Rattle.std.proofs.lemmas.List.{take_all}
 use Rattle.sqlite.specs.Order.{Row}
 use Rattle.sqlite.specs.Held.{state}
 use Rattle.store_schema.proofs.Selects.{survives_both}
+use Rattle.store_contents.specs.Layouts.{InTables}
 use Rattle.store_statements.specs.Held.{held}
 use Rattle.store_migration.specs.Moving.{Moves, without_manifest, without_listed_manifests}
 use Rattle.store_migration.proofs.ListedMoves.{none_moved, one_moved, stopped, key_more}
@@ -31,7 +32,7 @@ pub returns : goal.returns
 returns g c = record {
   moved = λ clean is under.
       let it = c.loop-key.invariant.moved.moved clean is under in
-      (it.0, subst (λ keys. Moves (without_listed_manifests keys) (held (state g.S.Store c.args.tx.now.conn.now)) (held (state g.S.Store c.loop-key.tx.conn.now))) (take_all c.loop-key.key-index c.args.keys.now (omega arith)) it.1);
+      (it.0, subst (λ keys. Moves (without_listed_manifests keys) (held InTables (state g.S.Store c.args.tx.now.conn.now)) (held InTables (state g.S.Store c.loop-key.tx.conn.now))) (take_all c.loop-key.key-index c.args.keys.now (omega arith)) it.1);
   counted = omega (arith, c.loop-key.invariant.done);
   kept = c.loop-key.invariant.moved.kept;
   same_reference = c.loop-key.invariant.same_reference;

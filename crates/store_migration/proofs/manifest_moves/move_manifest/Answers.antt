@@ -2,6 +2,7 @@ use Rattle.std.proofs.Common.{◌∙◌, arith, ap, sym, Some}
 use Rattle.sqlite.specs.State.{HasCleanDisk, IsUnchanged}
 use Rattle.sqlite.specs.Held.{state}
 use Rattle.store_schema.proofs.Selects.{commit_then, survives_both}
+use Rattle.store_contents.specs.Layouts.{InTables}
 use Rattle.store_statements.specs.Held.{held}
 use Rattle.store_migration.specs.Shown.{shown}
 use Rattle.store_migration.specs.Moving.{without_manifest}
@@ -16,7 +17,7 @@ returns-else-len-gt-LARGEST g c = record {
       let mid = state g.S.Store c.manifest_bytes.new.tx.conn.now in
       let early : HasCleanDisk mid = omega (arith, c.move_found.ensures.survives.clean) in
       let u : IsUnchanged old mid = c.in-Ok-Some.ensures.same early is under.olds in
-      let found : Found (held old) c.args.repo.now c.args.digest.now c.deref.result.now = sym (c.in-Ok-Some.ensures.found early is under.olds) ∙ ap shown c.in-Ok-Some.field-0-is ∙ ap Some (sym c.deref.ensures.value) in
+      let found : Found (held InTables old) c.args.repo.now c.args.digest.now c.deref.result.now = sym (c.in-Ok-Some.ensures.found early is under.olds) ∙ ap shown c.in-Ok-Some.field-0-is ∙ ap Some (sym c.deref.ensures.value) in
       let there = found_read old mid c.args.repo.now c.args.digest.now c.deref.result.now u found in
       moved_read old mid (state g.S.Store c.move_found.new.tx.conn.now) (without_manifest c.args.repo.now c.args.digest.now) c.move_found.result u (c.move_found.ensures.moved clean (ready_read old mid is u) (underway_read old mid under u) there);
   kept = λ clean is under.
@@ -24,7 +25,7 @@ returns-else-len-gt-LARGEST g c = record {
       let mid = state g.S.Store c.manifest_bytes.new.tx.conn.now in
       let early : HasCleanDisk mid = omega (arith, c.move_found.ensures.survives.clean) in
       let u : IsUnchanged old mid = c.in-Ok-Some.ensures.same early is under.olds in
-      let found : Found (held old) c.args.repo.now c.args.digest.now c.deref.result.now = sym (c.in-Ok-Some.ensures.found early is under.olds) ∙ ap shown c.in-Ok-Some.field-0-is ∙ ap Some (sym c.deref.ensures.value) in
+      let found : Found (held InTables old) c.args.repo.now c.args.digest.now c.deref.result.now = sym (c.in-Ok-Some.ensures.found early is under.olds) ∙ ap shown c.in-Ok-Some.field-0-is ∙ ap Some (sym c.deref.ensures.value) in
       let there = found_read old mid c.args.repo.now c.args.digest.now c.deref.result.now u found in
       commit_then old mid (state g.S.Store c.move_found.new.tx.conn.now) (c.in-Ok-Some.ensures.kept early is under.olds) (c.move_found.ensures.kept clean (ready_read old mid is u) (underway_read old mid under u) there);
   same_reference = c.move_found.ensures.same_reference ∙ c.in-Ok-Some.ensures.same_reference;

@@ -4,6 +4,7 @@ use Rattle.sqlite.specs.State.{HasCleanDisk}
 use Rattle.sqlite.specs.Held.{state}
 use Rattle.sqlite.proofs.Callers.{survives_begin}
 use Rattle.store_schema.proofs.Selects.{survives_both}
+use Rattle.store_contents.specs.Layouts.{InTables}
 use Rattle.store_statements.specs.Held.{SettlesOn}
 use Rattle.store_statements.proofs.Checks.{survives_here}
 use Rattle.store_statements.proofs.CleanBefore.{was_clean}
@@ -41,7 +42,7 @@ returns-in-Ok g c =
       free = λ clean. rw begun at (c.in_ok-moved.ensures.free (early clean));
       unnumbered = tt;
       crash = λ clean idle holds trees may.
-          let it : SettlesOn end (old_world_in (state g.S.Store c.args.conn.now).now) = rw begun at (settles mid end _ (c.in_ok-moved.ensures.made (early clean) (rw begun holds)) (c.in-Ok.ensures.ok clean).1) in
+          let it : SettlesOn InTables end (old_world_in (state g.S.Store c.args.conn.now).now) = rw begun at (settles mid end _ (c.in_ok-moved.ensures.made (early clean) (rw begun holds)) (c.in-Ok.ensures.ok clean).1) in
           let left = left_done g.S.Store g.met.S.Store.settled c.commit.new.self.0 (old_world_in (state g.S.Store c.args.conn.now).now) it trees may in
           (left, inr left);
       survives = survives_all (state g.S.Store c.args.conn.now) mid end _ _ (survives_begin g.S.Store c.args.conn.now mid _ (rw begun at c.rewrite.ensures.survives)) c.commit.ensures.survives;

@@ -2,6 +2,7 @@ use Rattle.std.proofs.Common.{◌≡◌, ◌∙◌, ap, arith, pos, to_z, w64, r
 use Rattle.std.proofs.lemmas.Int.{ints}
 use Rattle.sqlite.specs.Held.{state}
 use Rattle.sqlite.specs.declared.types.Value.TheVariants.{Int}
+use Rattle.store_contents.specs.Layouts.{InTables}
 use Rattle.store_statements.specs.Held.{held}
 use Rattle.store_statements.proofs.Executed.{given, keeps, makes_from}
 use Rattle.store_migration.specs.Olds.{HasOlds}
@@ -12,9 +13,9 @@ pub returns : goal.returns
 returns g c =
     let numbered : to_z w64 c.args.number ≡ pos c.args.number = omega (arith, ints) in
     record {
-      taken = makes_from g.S.Store c.args.tx.now.conn.now c.execute.new.self.conn.now _ _ c.execute.result c.execute.ensures.runs _ (given c.params-to_sql.ensures (given (c.params-to_sql-2.ensures ∙ ap Int numbered) refl)) c.done.result (HasOlds (held (state g.S.Store c.args.tx.now.conn.now))) _ c.done.ensures.ok
+      taken = makes_from g.S.Store c.args.tx.now.conn.now c.execute.new.self.conn.now _ _ c.execute.result c.execute.ensures.runs _ (given c.params-to_sql.ensures (given (c.params-to_sql-2.ensures ∙ ap Int numbered) refl)) c.done.result (HasOlds (held InTables (state g.S.Store c.args.tx.now.conn.now))) _ c.done.ensures.ok
           (took_by c.args.repo.now c.args.number (state g.S.Store c.args.tx.now.conn.now) (state g.S.Store c.execute.new.self.conn.now) c.execute.result);
-      kept = keeps g.S.Store c.args.tx.now.conn.now c.execute.new.self.conn.now _ _ c.execute.result c.execute.ensures.runs;
+      kept = keeps g.S.Store c.args.tx.now.conn.now c.execute.new.self.conn.now _ _ c.execute.result c.execute.ensures.runs InTables;
       same_reference = c.execute.ensures.same_reference;
       survives = c.execute.ensures.survives;
     }

@@ -3,6 +3,7 @@ use Rattle.std.proofs.lemmas.Result.{IfOk-from_err}
 use Rattle.sqlite.specs.State.{HasCleanDisk}
 use Rattle.sqlite.specs.Held.{state}
 use Rattle.store_schema.proofs.Selects.{commit_then, survives_both}
+use Rattle.store_contents.specs.Layouts.{InTables}
 use Rattle.store_statements.specs.Held.{held}
 use Rattle.store_statements.proofs.CleanBefore.{was_clean}
 use Rattle.store_migration.specs.OldTables.{OldTables}
@@ -72,7 +73,7 @@ returns-in-Ok g c =
           let it1 = m1.moved on_second is under in
           let it2 = m2.moved on_third is under in
           let step = c.in_ok-manifests.ensures.moved on_third it1.0 it1.1.underway in
-          all_counted (held first) (held second) (held third) c.in_ok-blobs.blobs c.in_ok-manifests.manifests c.in_ok-sessions.sessions it1.1 step.1
+          all_counted (held InTables first) (held InTables second) (held InTables third) c.in_ok-blobs.blobs c.in_ok-manifests.manifests c.in_ok-sessions.sessions it1.1 step.1
           (c.in_ok-blobs.ensures.counted on_second is under) (c.in_ok-manifests.ensures.counted on_third it1.0 it1.1.underway) (c.in_ok-sessions.ensures.counted (early clean) it2.0 it2.1.underway);
       kept = λ clean is under. commit_then first last new (m3.kept (early clean) is under) (c.raise_version.ensures.kept clean (m3.moved (early clean) is under).0);
       same_reference = c.raise_version.ensures.same_reference ∙ c.move_sessions.ensures.same_reference ∙ c.move_manifests.ensures.same_reference ∙ c.move_blobs.ensures.same_reference;

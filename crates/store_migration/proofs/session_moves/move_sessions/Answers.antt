@@ -7,6 +7,7 @@ use Rattle.store_schema.proofs.Selects.{commit_then, survives_both}
 use Rattle.store_migration.specs.Listed.{session_of}
 use Rattle.store_migration.specs.Olds.{old_of}
 use Rattle.store_migration.specs.Shown.{session_shown}
+use Rattle.store_contents.specs.Layouts.{InTables}
 use Rattle.store_statements.specs.Held.{held}
 use Rattle.store_migration.specs.Moving.{without_listed_sessions, without_sessions}
 use Rattle.store_migration.proofs.Underway.{ready_read, underway_read}
@@ -20,15 +21,15 @@ returns g c = record {
       let mid = state g.S.Store c.session_keys.new.tx.conn.now in
       let early : HasCleanDisk mid = omega (arith, c.move_listed.ensures.survives.clean) in
       let u = c.in_ok-keys.ensures.same early is under.olds in
-      let rows = (old_of (held old)).sessions in
+      let rows = (old_of (held InTables old)).sessions in
       all_moved c.move_listed.result (without_listed_sessions c.in_ok-keys.keys.items) without_sessions old mid (state g.S.Store c.move_listed.new.tx.conn.now) u
-      (ap (λ (left : List Row). record (old_of (held old)) { sessions = left }) (all_numbers_go c.in_ok-keys.keys.items rows (c.in_ok-keys.ensures.found early is under.olds)))
+      (ap (λ (left : List Row). record (old_of (held InTables old)) { sessions = left }) (all_numbers_go c.in_ok-keys.keys.items rows (c.in_ok-keys.ensures.found early is under.olds)))
       (rw c.deref.ensures.value at (c.move_listed.ensures.moved clean (ready_read old mid is u) (underway_read old mid under u)));
   counted = λ clean is under.
       let old = state g.S.Store c.args.tx.now.conn.now in
       let mid = state g.S.Store c.session_keys.new.tx.conn.now in
       let early : HasCleanDisk mid = omega (arith, c.move_listed.ensures.survives.clean) in
-      counted c.move_listed.result session_of session_shown (old_of (held old)).sessions c.in_ok-keys.keys.items (c.in_ok-keys.ensures.found early is under.olds)
+      counted c.move_listed.result session_of session_shown (old_of (held InTables old)).sessions c.in_ok-keys.keys.items (c.in_ok-keys.ensures.found early is under.olds)
       (rw c.deref.ensures.value at c.move_listed.ensures.counted);
   kept = λ clean is under.
       let old = state g.S.Store c.args.tx.now.conn.now in

@@ -1,4 +1,5 @@
 use Rattle.sqlite.specs.Held.{state}
+use Rattle.store_contents.specs.Layouts.{InTables}
 use Rattle.store_statements.specs.Held.{held}
 use Rattle.store_opening.specs.Opening.{versions_in}
 use Rattle.store_opening.proofs.OpeningLemmas.{knows_version, is_marked, settled, is_two, two_told, wanting_told, other_told, unsaid_told, told_as, never_two, names_none, unnamed, unanswered, on_two, on_err, two_asked, never_both, never_neither, bare_unmarked}
@@ -36,7 +37,7 @@ returns g c = record {
   unmade = λ clean bare. absurd (never_neither c.is_marked.result _ c.is_marked.ensures (bare_unmarked (state g.S.Store c.args.conn.now).now bare) c.if-not-is_marked.false);
   wanting = λ clean h. wanting_told (versions_in (state g.S.Store c.args.conn.now).now) c.read_version.result (c.read_version.ensures.alone clean (knows_version (state g.S.Store c.args.conn.now).now h.holds)) c.only_two.result c.only_two.ensures.other h.agree.version (c.read_version.ensures.whole clean (knows_version (state g.S.Store c.args.conn.now).now h.holds));
   two = λ clean h.
-      is_two c.only_two.result (held (state g.S.Store c.args.conn.now)).version
+      is_two c.only_two.result (held InTables (state g.S.Store c.args.conn.now)).version
       (two_told (versions_in (state g.S.Store c.args.conn.now).now) c.read_version.result (c.read_version.ensures.alone clean (knows_version (state g.S.Store c.args.conn.now).now h)) c.only_two.result c.only_two.ensures.two);
   other = λ clean h n alone not_two. other_told (versions_in (state g.S.Store c.args.conn.now).now) c.read_version.result (c.read_version.ensures.alone clean (knows_version (state g.S.Store c.args.conn.now).now h)) c.only_two.result c.only_two.ensures.other n alone (c.read_version.ensures.whole clean (knows_version (state g.S.Store c.args.conn.now).now h) n alone);
   unsaid = λ clean h none. unsaid_told (versions_in (state g.S.Store c.args.conn.now).now) c.read_version.result (c.read_version.ensures.alone clean (knows_version (state g.S.Store c.args.conn.now).now h)) c.only_two.result c.only_two.ensures.other none c.read_version.ensures.none;

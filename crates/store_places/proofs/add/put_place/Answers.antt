@@ -4,7 +4,7 @@ use Rattle.sqlite.specs.Held.{state}
 use Rattle.sqlite.specs.declared.types.Value.TheVariants.{Int}
 use Rattle.store_contents.proofs.Reading.{on_done}
 use Rattle.store_schema.proofs.Writes.{keeps_by_execute}
-use Rattle.store_places.specs.Texts.{place_add}
+use Rattle.store_contents.specs.PlaceTexts.{place_add}
 use Rattle.registry_pack.specs.Extents.{starts_at, size_of}
 use Rattle.store_places.proofs.AddLemmas.{place_put_by}
 use Rattle.store_places.proofs.add.put_place.Goals as goal

@@ -1,7 +1,7 @@
 use Rattle.std.proofs.Common.{◌∙◌, ap}
 use Rattle.sqlite.specs.Held.{state}
 use Rattle.store_schema.proofs.Selects.{was_clean}
-use Rattle.store_places.specs.Places.{of_content}
+use Rattle.store_contents.specs.Places.{of_content}
 use Rattle.std.specs.Prelude.{filter}
 use Rattle.store_places.proofs.RemoveLemmas.{removed_row_then, none_left}
 use Rattle.store_places.proofs.removal.remove_content.Goals as goal

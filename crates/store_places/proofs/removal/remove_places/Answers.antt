@@ -4,7 +4,7 @@ use Rattle.sqlite.specs.Held.{state}
 use Rattle.sqlite.specs.declared.types.Value.TheVariants.{Int}
 use Rattle.store_contents.proofs.Reading.{on_done}
 use Rattle.store_schema.proofs.Writes.{keeps_by_execute}
-use Rattle.store_places.specs.Texts.{place_remove}
+use Rattle.store_contents.specs.PlaceTexts.{place_remove}
 use Rattle.store_places.proofs.RemoveLemmas.{places_removed_by}
 use Rattle.store_places.proofs.removal.remove_places.Goals as goal
 

@@ -2,6 +2,7 @@ use Rattle.std.proofs.Common.{◌∙◌, None, Some, refl, ap}
 use Rattle.sqlite.specs.Held.{state}
 use Rattle.store_statements.specs.Held.{held}
 use Rattle.store_statements.proofs.Transactions.{registry, survives_all}
+use Rattle.store_contents.specs.Layouts.{InTables}
 use Rattle.store_reads.proofs.ReadSequences.{stays_behind, told_behind}
 use Rattle.store_reads.proofs.WorldReads.{blob_by, bytes_kept}
 use Rattle.store_reads.proofs.blobs.blob_bytes.Goals as goal
@@ -13,11 +14,11 @@ returns-in-Ok g c =
     let new = state g.S.Store c.content.new.conn in
     record {
       found = λ clean is.
-          told_behind old mid new c.content.ensures.survives (λ early is. c.in-Ok-Some.ensures.settled early is refl) (λ early stays.
-          ap Some (bytes_kept old mid c.in-Ok-Some.link.content.id c.in-Ok.bytes.items stays.1 (c.in-Ok.ensures.found clean stays.0))
-          ∙ blob_by (held old) c.args.repo.now c.args.digest.now (registry old is) (Some c.in-Ok-Some.link)
-          (rw (c.in-Ok-Some.field-0-is, c.as_str.ensures.text, c.as_str-2.ensures.text) at (c.in-Ok-Some.ensures.found early is))) clean is;
-      settled = λ clean is unspent. stays_behind old mid new c.content.ensures.survives (λ early is. c.in-Ok-Some.ensures.settled early is refl) (λ clean is. c.in-Ok.ensures.settled clean is refl) clean is;
+          told_behind old mid new c.content.ensures.survives (λ early is. c.in-Ok-Some.ensures.settled InTables early is refl) (λ early stays.
+          ap Some (bytes_kept InTables old mid c.in-Ok-Some.link.content.id c.in-Ok.bytes.items stays.1 (c.in-Ok.ensures.found clean stays.0))
+          ∙ blob_by (held InTables old) c.args.repo.now c.args.digest.now (registry old is) (Some c.in-Ok-Some.link)
+          (rw (c.in-Ok-Some.field-0-is, c.as_str.ensures.text, c.as_str-2.ensures.text) at (c.in-Ok-Some.ensures.found InTables early is))) clean is;
+      settled = λ clean is unspent. stays_behind old mid new c.content.ensures.survives (λ early is. c.in-Ok-Some.ensures.settled InTables early is refl) (λ clean is. c.in-Ok.ensures.settled clean is refl) clean is;
       survives = survives_all old mid new _ _ c.find_blob_link.ensures.survives c.content.ensures.survives;
     }
 
@@ -28,22 +29,22 @@ returns-in-Err-content g c =
     let new = state g.S.Store c.content.new.conn in
     record {
       found = λ clean is. tt;
-      settled = λ clean is unspent. stays_behind old mid new c.content.ensures.survives (λ early is. c.in-Ok-Some.ensures.settled early is refl) (λ clean is. c.in-Err-content.ensures.settled clean is unspent) clean is;
+      settled = λ clean is unspent. stays_behind old mid new c.content.ensures.survives (λ early is. c.in-Ok-Some.ensures.settled InTables early is refl) (λ clean is. c.in-Err-content.ensures.settled clean is unspent) clean is;
       survives = survives_all old mid new _ _ c.find_blob_link.ensures.survives c.content.ensures.survives;
     }
 
 pub returns-in-Ok-None : goal.returns-in-Ok-None
 returns-in-Ok-None g c = record {
   found = λ clean is.
-      blob_by (held (state g.S.Store c.args.conn.now)) c.args.repo.now c.args.digest.now (registry (state g.S.Store c.args.conn.now) is) None
-      (rw (c.in-Ok-None.field-0-is, c.as_str.ensures.text, c.as_str-2.ensures.text) at (c.in-Ok-None.ensures.found clean is));
-  settled = c.in-Ok-None.ensures.settled;
+      blob_by (held InTables (state g.S.Store c.args.conn.now)) c.args.repo.now c.args.digest.now (registry (state g.S.Store c.args.conn.now) is) None
+      (rw (c.in-Ok-None.field-0-is, c.as_str.ensures.text, c.as_str-2.ensures.text) at (c.in-Ok-None.ensures.found InTables clean is));
+  settled = c.in-Ok-None.ensures.settled InTables;
   survives = c.find_blob_link.ensures.survives;
 }
 
 pub returns-in-Err : goal.returns-in-Err
 returns-in-Err g c = record {
   found = λ clean is. tt;
-  settled = λ clean is unspent. c.in-Err.ensures.settled clean is unspent;
+  settled = λ clean is unspent. c.in-Err.ensures.settled InTables clean is unspent;
   survives = c.find_blob_link.ensures.survives;
 }

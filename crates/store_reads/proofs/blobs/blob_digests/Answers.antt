@@ -10,7 +10,7 @@ pub returns : goal.returns
 returns g c =
     let old = state g.S.Store c.args.conn.now in
     record {
-      found = λ clean is. IfOk-weaker c.list_blob_digests.result _ _ (λ digests h. h ∙ sym (blob_digests_found (held old) c.args.repo.now (registry old is))) (rw c.as_str.ensures.text at (c.list_blob_digests.ensures.found clean is));
+      found = λ l clean is. IfOk-weaker c.list_blob_digests.result _ _ (λ digests h. h ∙ sym (blob_digests_found (held l old) c.args.repo.now (registry old is))) (rw c.as_str.ensures.text at (c.list_blob_digests.ensures.found l clean is));
       settled = c.list_blob_digests.ensures.settled;
       survives = c.list_blob_digests.ensures.survives;
     }

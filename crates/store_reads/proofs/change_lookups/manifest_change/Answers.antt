@@ -10,21 +10,21 @@ use Rattle.store_reads.proofs.change_lookups.manifest_change.Goals as goal
 
 pub returns-in-Ok : goal.returns-in-Ok
 returns-in-Ok g c = record {
-  found = λ clean is.
-      tells_behind g.S.Store c.args.conn.now c.count_new_tags.new.conn (λ mid is. c.in-Ok.ensures.settled mid is refl) c.tagged_change.new.conn c.tagged_change.ensures.survives
+  found = λ l clean is.
+      tells_behind g.S.Store c.args.conn.now c.count_new_tags.new.conn (λ mid is. c.in-Ok.ensures.settled l mid is refl) c.tagged_change.new.conn c.tagged_change.ensures.survives
       c.tagged_change.result (λ w change. IfSome change (Foretells w c.args.repo.now (λ r. with_manifest r c.args.digest.now c.args.bytes.now (text_in c.args.tag))))
-      (c.tagged_change.ensures.found (found_behind g.S.Store c.args.conn.now c.count_new_tags.new.conn (λ mid is. c.in-Ok.ensures.settled mid is refl)
-      (λ w. c.in-Ok.tags ≡ new_tags w c.args.repo.now (text_in c.args.tag)) is (λ mid. c.in-Ok.ensures.found mid is))) clean is;
-  settled = stays_behind g.S.Store c.args.conn.now c.count_new_tags.new.conn (λ mid is. c.in-Ok.ensures.settled mid is refl) c.tagged_change.new.conn c.tagged_change.ensures.survives
-      c.tagged_change.result c.tagged_change.ensures.settled;
-  kept = kept_behind g.S.Store c.args.conn.now c.count_new_tags.new.conn (λ mid is. c.in-Ok.ensures.settled mid is refl) c.tagged_change.new.conn c.tagged_change.ensures.survives c.tagged_change.ensures.kept;
+      (c.tagged_change.ensures.found l (found_behind g.S.Store c.args.conn.now c.count_new_tags.new.conn (λ mid is. c.in-Ok.ensures.settled l mid is refl)
+      (λ w. c.in-Ok.tags ≡ new_tags w c.args.repo.now (text_in c.args.tag)) is (λ mid. c.in-Ok.ensures.found l mid is))) clean is;
+  settled = λ l. stays_behind g.S.Store c.args.conn.now c.count_new_tags.new.conn (λ mid is. c.in-Ok.ensures.settled l mid is refl) c.tagged_change.new.conn c.tagged_change.ensures.survives
+      c.tagged_change.result (c.tagged_change.ensures.settled l);
+  kept = λ l. kept_behind g.S.Store c.args.conn.now c.count_new_tags.new.conn (λ mid is. c.in-Ok.ensures.settled l mid is refl) c.tagged_change.new.conn c.tagged_change.ensures.survives (c.tagged_change.ensures.kept l);
   survives = survives_all (state g.S.Store c.args.conn.now) (state g.S.Store c.count_new_tags.new.conn) (state g.S.Store c.tagged_change.new.conn) _ _ c.count_new_tags.ensures.survives c.tagged_change.ensures.survives;
 }
 
 pub returns-in-Err : goal.returns-in-Err
 returns-in-Err g c = record {
-  found = λ clean is. tt;
-  settled = λ clean is unspent. c.in-Err.ensures.settled clean is unspent;
+  found = λ l clean is. tt;
+  settled = λ l clean is unspent. c.in-Err.ensures.settled l clean is unspent;
   kept = c.count_new_tags.ensures.kept;
   survives = c.count_new_tags.ensures.survives;
 }

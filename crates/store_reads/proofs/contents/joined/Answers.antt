@@ -7,6 +7,7 @@ use Rattle.store_statements.specs.World.{content_at}
 use Rattle.store_statements.specs.Held.{held}
 use Rattle.store_statements.proofs.Checks.{survives_here}
 use Rattle.store_statements.proofs.Transactions.{survives_all}
+use Rattle.store_contents.specs.Layouts.{InTables}
 use Rattle.store_reads.proofs.ReadSequences.{stays_here, stays_behind, told_behind, passed_on, contents_more}
 use Rattle.store_reads.proofs.Passing.{extended_so}
 use Rattle.store_reads.proofs.contents.joined.Goals as goal
@@ -28,14 +29,14 @@ loop-id-preserved g c =
       settled = stays_behind old mid new c.content.ensures.survives c.loop-id.invariant.settled (λ clean is. c.content.ensures.settled clean is (c.in_ok-extend.ensures.storage (refl {a = false})));
       bytes = λ clean is.
           told_behind old mid new c.content.ensures.survives c.loop-id.invariant.settled (λ early stays.
-          contents_more old.now mid.now c.args.ids.now c.loop-id.id-index _ c.loop-id.bytes.items c.extend.new.bytes.items stays.1 (omega arith) (c.loop-id.invariant.bytes early is)
-          (extended_so (held mid).contents _ c.loop-id.bytes.items c.extend.new.bytes.items c.content.result (c.content.ensures.found clean stays.0) c.in_ok-extend.ensures.extended)) clean is;
+          contents_more InTables old.now mid.now c.args.ids.now c.loop-id.id-index _ c.loop-id.bytes.items c.extend.new.bytes.items stays.1 (omega arith) (c.loop-id.invariant.bytes early is)
+          (extended_so (held InTables mid).contents _ c.loop-id.bytes.items c.extend.new.bytes.items c.content.result (c.content.ensures.found clean stays.0) c.in_ok-extend.ensures.extended)) clean is;
     }
 
 pub returns : goal.returns
 returns g c = record {
   found = λ clean is.
-      c.loop-id.invariant.bytes clean is ∙ ap (λ ids. concat (map (λ id. content_at (held (state g.S.Store c.args.conn.now)).contents id.id) ids)) (take_all c.loop-id.id-index c.args.ids.now (omega arith));
+      c.loop-id.invariant.bytes clean is ∙ ap (λ ids. concat (map (λ id. content_at (held InTables (state g.S.Store c.args.conn.now)).contents id.id) ids)) (take_all c.loop-id.id-index c.args.ids.now (omega arith));
   settled = λ clean is unspent. c.loop-id.invariant.settled clean is;
   survives = c.loop-id.invariant.survives;
 }

@@ -5,6 +5,7 @@ use Rattle.sqlite.specs.State.{HasCleanDisk, Survives}
 use Rattle.sqlite.specs.Held.{state}
 use Rattle.store_statements.specs.World.{content_at}
 use Rattle.store_statements.specs.Held.{IsSettled, StaysSettled, held}
+use Rattle.store_contents.specs.Layouts.{InTables}
 use Rattle.store_reads.proofs.contents.joined.Given as goal
 
 -- nothing has changed, and the buffer holds the contents so far
@@ -14,6 +15,6 @@ invariant-loop-id g l =
     let now = state g.S.Store l.conn in
     record {
       survives : Survives old now (λ _. ⊤);
-      settled : HasCleanDisk now → IsSettled old → StaysSettled old now;
-      bytes : HasCleanDisk now → IsSettled old → l.bytes.items ≡ concat (map (λ id. content_at (held old).contents id.id) (take l.id-index l.ids));
+      settled : HasCleanDisk now → IsSettled InTables old → StaysSettled InTables old now;
+      bytes : HasCleanDisk now → IsSettled InTables old → l.bytes.items ≡ concat (map (λ id. content_at (held InTables old).contents id.id) (take l.id-index l.ids));
     }

@@ -6,9 +6,9 @@ use Rattle.store_reads.proofs.deletion_lookups.count_tags_naming.Goals as goal
 
 pub returns-in-Ok : goal.returns-in-Ok
 returns-in-Ok g c = record {
-  found = λ clean is.
-      naming_found (held (state g.S.Store c.args.conn.now)) c.args.repo.now c.args.digest.now c.in-Ok.count (registry (state g.S.Store c.args.conn.now) is)
-      (rw (c.as_str.ensures.text, c.as_str-2.ensures.text) at (c.in-Ok.ensures.found clean is));
+  found = λ l clean is.
+      naming_found (held l (state g.S.Store c.args.conn.now)) c.args.repo.now c.args.digest.now c.in-Ok.count (registry (state g.S.Store c.args.conn.now) is)
+      (rw (c.as_str.ensures.text, c.as_str-2.ensures.text) at (c.in-Ok.ensures.found l clean is));
   settled = c.in-Ok.ensures.settled;
   kept = c.count_tags_named.ensures.kept;
   survives = c.count_tags_named.ensures.survives;
@@ -16,8 +16,8 @@ returns-in-Ok g c = record {
 
 pub returns-in-Err : goal.returns-in-Err
 returns-in-Err g c = record {
-  found = λ clean is. tt;
-  settled = λ clean is unspent. c.in-Err.ensures.settled clean is unspent;
+  found = λ l clean is. tt;
+  settled = λ l clean is unspent. c.in-Err.ensures.settled l clean is unspent;
   kept = c.count_tags_named.ensures.kept;
   survives = c.count_tags_named.ensures.survives;
 }

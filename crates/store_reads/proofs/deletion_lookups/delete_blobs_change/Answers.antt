@@ -18,8 +18,8 @@ returns-then-ascend g c = record {
 
 pub returns-else-ascend : goal.returns-else-ascend
 returns-else-ascend g c = record {
-  found = λ clean is. tt;
-  settled = λ clean is unspent. stays_here (state g.S.Store c.args.conn.now) is;
-  kept = λ clean is. kept_stayed g.S.Store g.met.S.Store.settled c.args.conn.now c.args.conn.now is (is, refl);
+  found = λ l clean is. tt;
+  settled = λ l clean is unspent. stays_here (state g.S.Store c.args.conn.now) is;
+  kept = λ l clean is. kept_stayed g.S.Store g.met.S.Store.settled c.args.conn.now c.args.conn.now is (is, refl);
   survives = survives_here (state g.S.Store c.args.conn.now);
 }

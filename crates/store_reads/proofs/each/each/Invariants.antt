@@ -2,6 +2,7 @@ use Rattle.std.specs.Prelude.{⊤}
 use Rattle.sqlite.specs.State.{HasCleanDisk, Survives}
 use Rattle.sqlite.specs.Held.{state}
 use Rattle.store_statements.specs.Held.{IsSettled, StaysSettled, held}
+use Rattle.store_contents.specs.Layouts.{InTables}
 use Rattle.store_reads.specs.Each.{AreTold}
 use Rattle.store_reads.proofs.each.each.Given as goal
 
@@ -12,6 +13,6 @@ invariant-loop-one g l =
     let now = state g.S.Store l.conn in
     record {
       survives : Survives old now (λ _. ⊤);
-      settled : HasCleanDisk now → IsSettled old → StaysSettled old now;
-      told : HasCleanDisk now → IsSettled old → AreTold (g.T.Leads.told (held old)) l.yielded l.values.items;
+      settled : HasCleanDisk now → IsSettled InTables old → StaysSettled InTables old now;
+      told : HasCleanDisk now → IsSettled InTables old → AreTold (g.T.Leads.told (held InTables old)) l.yielded l.values.items;
     }

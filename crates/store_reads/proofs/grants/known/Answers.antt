@@ -8,8 +8,8 @@ use Rattle.store_reads.proofs.grants.known.Goals as goal
 
 pub returns : goal.returns
 returns g c = record {
-  found = λ clean is.
-      told c.is_known.result _ _ (sym (known_found (held (state g.S.Store c.args.conn.now)) c.args.token.now (registry (state g.S.Store c.args.conn.now) is))) (rw c.as_str.ensures.text at (c.is_known.ensures.found clean is));
+  found = λ l clean is.
+      told c.is_known.result _ _ (sym (known_found (held l (state g.S.Store c.args.conn.now)) c.args.token.now (registry (state g.S.Store c.args.conn.now) is))) (rw c.as_str.ensures.text at (c.is_known.ensures.found l clean is));
   settled = c.is_known.ensures.settled;
   survives = c.is_known.ensures.survives;
 }

@@ -7,8 +7,8 @@ use Rattle.store_reads.proofs.grants.level.Goals as goal
 
 pub returns : goal.returns
 returns g c = record {
-  found = λ clean is.
-      told c.find_level.result _ _ (sym (level_found (held (state g.S.Store c.args.conn.now)) c.args.token.now c.args.repo.now)) (rw (c.as_str.ensures.text, c.as_str-2.ensures.text) at (c.find_level.ensures.found clean is));
+  found = λ l clean is.
+      told c.find_level.result _ _ (sym (level_found (held l (state g.S.Store c.args.conn.now)) c.args.token.now c.args.repo.now)) (rw (c.as_str.ensures.text, c.as_str-2.ensures.text) at (c.find_level.ensures.found l clean is));
   settled = c.find_level.ensures.settled;
   survives = c.find_level.ensures.survives;
 }

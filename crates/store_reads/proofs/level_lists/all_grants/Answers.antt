@@ -11,9 +11,8 @@ use Rattle.store_reads.proofs.level_lists.all_grants.Goals as goal
 pub returns : goal.returns
 returns g c =
     let old = state g.S.Store c.args.conn.now in
-    let w = world_in old in
     record {
-      found = λ clean is. IfOk-weaker c.list_grants.result _ _ (λ grants h. subst (λ (l : List Grant). AreLevelsOver w (repo_names_of w) l) (sym h) (grants_found (held old) (registry old is))) (c.list_grants.ensures.found clean is);
+      found = λ l clean is. let w = world_in l old in IfOk-weaker c.list_grants.result _ _ (λ grants h. subst (λ (gs : List Grant). AreLevelsOver w (repo_names_of w) gs) (sym h) (grants_found (held l old) (registry old is))) (c.list_grants.ensures.found l clean is);
       settled = c.list_grants.ensures.settled;
       survives = c.list_grants.ensures.survives;
     }

@@ -7,15 +7,15 @@ use Rattle.store_reads.proofs.pages.tags_after.Goals as goal
 
 pub returns-in-Ok : goal.returns-in-Ok
 returns-in-Ok g c = record {
-  found = λ clean is.
-      page_told _ _ _ _ (page_found (held (state g.S.Store c.args.conn.now)) c.args.repo.now c.args.last.now c.args.n (registry (state g.S.Store c.args.conn.now) is)) (rw c.as_str.ensures.text at (c.in-Ok.ensures.found clean is));
+  found = λ l clean is.
+      page_told _ _ _ _ (page_found (held l (state g.S.Store c.args.conn.now)) c.args.repo.now c.args.last.now c.args.n (registry (state g.S.Store c.args.conn.now) is)) (rw c.as_str.ensures.text at (c.in-Ok.ensures.found l clean is));
   settled = c.in-Ok.ensures.settled;
   survives = c.tags_page.ensures.survives;
 }
 
 pub returns-in-Err : goal.returns-in-Err
 returns-in-Err g c = record {
-  found = λ clean is. tt;
-  settled = λ clean is unspent. c.in-Err.ensures.settled clean is unspent;
+  found = λ l clean is. tt;
+  settled = λ l clean is unspent. c.in-Err.ensures.settled l clean is unspent;
   survives = c.tags_page.ensures.survives;
 }

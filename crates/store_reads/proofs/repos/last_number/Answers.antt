@@ -6,7 +6,7 @@ use Rattle.store_reads.proofs.repos.last_number.Goals as goal
 
 pub returns-in-Ok-Some : goal.returns-in-Ok-Some
 returns-in-Ok-Some g c = record {
-  found = λ clean is. last_number_by (held (state g.S.Store c.args.conn.now)) c.args.repo.now (Some c.in-Ok-Some.row) (rw (c.in-Ok-Some.field-0-is, c.as_str.ensures.text) at (c.in-Ok-Some.ensures.found clean is));
+  found = λ l clean is. last_number_by (held l (state g.S.Store c.args.conn.now)) c.args.repo.now (Some c.in-Ok-Some.row) (rw (c.in-Ok-Some.field-0-is, c.as_str.ensures.text) at (c.in-Ok-Some.ensures.found l clean is));
   settled = c.in-Ok-Some.ensures.settled;
   kept = c.find_repo.ensures.kept;
   survives = c.find_repo.ensures.survives;
@@ -14,7 +14,7 @@ returns-in-Ok-Some g c = record {
 
 pub returns-in-Ok-None : goal.returns-in-Ok-None
 returns-in-Ok-None g c = record {
-  found = λ clean is. last_number_by (held (state g.S.Store c.args.conn.now)) c.args.repo.now None (rw (c.in-Ok-None.field-0-is, c.as_str.ensures.text) at (c.in-Ok-None.ensures.found clean is));
+  found = λ l clean is. last_number_by (held l (state g.S.Store c.args.conn.now)) c.args.repo.now None (rw (c.in-Ok-None.field-0-is, c.as_str.ensures.text) at (c.in-Ok-None.ensures.found l clean is));
   settled = c.in-Ok-None.ensures.settled;
   kept = c.find_repo.ensures.kept;
   survives = c.find_repo.ensures.survives;
@@ -22,8 +22,8 @@ returns-in-Ok-None g c = record {
 
 pub returns-in-Err : goal.returns-in-Err
 returns-in-Err g c = record {
-  found = λ clean is. tt;
-  settled = λ clean is unspent. c.in-Err.ensures.settled clean is unspent;
+  found = λ l clean is. tt;
+  settled = λ l clean is unspent. c.in-Err.ensures.settled l clean is unspent;
   kept = c.find_repo.ensures.kept;
   survives = c.find_repo.ensures.survives;
 }

@@ -10,7 +10,7 @@ pub returns : goal.returns
 returns g c =
     let old = state g.S.Store c.args.conn.now in
     record {
-      found = λ clean is. IfOk-weaker c.list_repos.result _ _ (λ names h. h ∙ sym (names_found (held old) (registry old is))) (c.list_repos.ensures.found clean is);
+      found = λ l clean is. IfOk-weaker c.list_repos.result _ _ (λ names h. h ∙ sym (names_found (held l old) (registry old is))) (c.list_repos.ensures.found l clean is);
       settled = c.list_repos.ensures.settled;
       survives = c.list_repos.ensures.survives;
     }

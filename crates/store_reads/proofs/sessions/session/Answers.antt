@@ -2,6 +2,7 @@ use Rattle.std.proofs.Common.{refl, false}
 use Rattle.std.proofs.lemmas.Result.{IfOk-from_err}
 use Rattle.sqlite.specs.Held.{state}
 use Rattle.store_statements.proofs.Transactions.{registry, survives_all}
+use Rattle.store_contents.specs.Layouts.{InTables}
 use Rattle.store_reads.proofs.ReadSequences.{stays_behind, told_behind, passed_on}
 use Rattle.store_reads.proofs.SessionBytes.{session_none, session_some}
 use Rattle.store_reads.proofs.sessions.session.Goals as goal
@@ -13,11 +14,11 @@ returns-in_ok-session_bytes-in-Some g c =
     let new = state g.S.Store c.session_bytes.new.conn in
     record {
       found = λ clean is.
-          told_behind old mid new c.session_bytes.ensures.survives (λ early is. c.in_ok-size.ensures.settled early is (refl {a = false})) (λ early stays.
-          session_some old.now mid.now c.args.repo.now c.as_str-repo.result.now c.args.number c.in-Some.size c.in_ok-size.field-0 c.in_ok-session_bytes-in-Some.field-0.items
-          (registry old is) c.as_str-repo.ensures.text stays.1 c.in-Some.is (c.in_ok-size.ensures.found early is) (c.in_ok-session_bytes-in-Some.ensures.found clean stays.0)) clean is;
+          told_behind old mid new c.session_bytes.ensures.survives (λ early is. c.in_ok-size.ensures.settled InTables early is (refl {a = false})) (λ early stays.
+          session_some InTables old.now mid.now c.args.repo.now c.as_str-repo.result.now c.args.number c.in-Some.size c.in_ok-size.field-0 c.in_ok-session_bytes-in-Some.field-0.items
+          (registry old is) c.as_str-repo.ensures.text stays.1 c.in-Some.is (c.in_ok-size.ensures.found InTables early is) (c.in_ok-session_bytes-in-Some.ensures.found clean stays.0)) clean is;
       settled = λ clean is unspent.
-          stays_behind old mid new c.session_bytes.ensures.survives (λ early is. c.in_ok-size.ensures.settled early is (refl {a = false}))
+          stays_behind old mid new c.session_bytes.ensures.survives (λ early is. c.in_ok-size.ensures.settled InTables early is (refl {a = false}))
           (λ clean is. c.in_ok-session_bytes-in-Some.ensures.settled clean is (refl {a = false})) clean is;
       survives = survives_all old mid new _ _ c.find_upload.ensures.survives c.session_bytes.ensures.survives;
     }
@@ -25,16 +26,16 @@ returns-in_ok-session_bytes-in-Some g c =
 pub returns-in-None : goal.returns-in-None
 returns-in-None g c = record {
   found = λ clean is.
-      session_none (state g.S.Store c.args.conn.now).now c.args.repo.now c.as_str-repo.result.now c.args.number c.in_ok-size.field-0
-      (registry (state g.S.Store c.args.conn.now) is) c.as_str-repo.ensures.text c.in-None.is (c.in_ok-size.ensures.found clean is);
-  settled = λ clean is unspent. c.in_ok-size.ensures.settled clean is (refl {a = false});
+      session_none InTables (state g.S.Store c.args.conn.now).now c.args.repo.now c.as_str-repo.result.now c.args.number c.in_ok-size.field-0
+      (registry (state g.S.Store c.args.conn.now) is) c.as_str-repo.ensures.text c.in-None.is (c.in_ok-size.ensures.found InTables clean is);
+  settled = λ clean is unspent. c.in_ok-size.ensures.settled InTables clean is (refl {a = false});
   survives = c.find_upload.ensures.survives;
 }
 
 pub returns-in_err-size : goal.returns-in_err-size
 returns-in_err-size g c = record {
   found = λ clean is. IfOk-from_err c.from_residual.result _ c.from_residual.ensures.0;
-  settled = λ clean is unspent. c.find_upload.ensures.settled clean is (passed_on c.from_residual.result c.find_upload.result _ c.in_err-size.was c.from_residual.ensures.1 unspent);
+  settled = λ clean is unspent. c.find_upload.ensures.settled InTables clean is (passed_on c.from_residual.result c.find_upload.result _ c.in_err-size.was c.from_residual.ensures.1 unspent);
   survives = c.find_upload.ensures.survives;
 }
 
@@ -46,7 +47,7 @@ returns-in_err-session_bytes-in-Some g c =
     record {
       found = λ clean is. IfOk-from_err c.from_residual-in_err-session_bytes-in-Some.result _ c.from_residual-in_err-session_bytes-in-Some.ensures.0;
       settled = λ clean is unspent.
-          stays_behind old mid new c.session_bytes.ensures.survives (λ early is. c.in_ok-size.ensures.settled early is (refl {a = false}))
+          stays_behind old mid new c.session_bytes.ensures.survives (λ early is. c.in_ok-size.ensures.settled InTables early is (refl {a = false}))
           (λ clean is. c.session_bytes.ensures.settled clean is (passed_on c.from_residual-in_err-session_bytes-in-Some.result c.session_bytes.result _ c.in_err-session_bytes-in-Some.was c.from_residual-in_err-session_bytes-in-Some.ensures.1 unspent)) clean is;
       survives = survives_all old mid new _ _ c.find_upload.ensures.survives c.session_bytes.ensures.survives;
     }

@@ -10,7 +10,7 @@ pub returns : goal.returns
 returns g c =
     let old = state g.S.Store c.args.conn.now in
     record {
-      found = λ clean is. IfOk-weaker c.list_tags.result _ _ (λ tags h. h ∙ sym (tags_found (held old) (registry old is) c.args.repo.now)) (rw c.as_str.ensures.text at (c.list_tags.ensures.found clean is));
+      found = λ l clean is. IfOk-weaker c.list_tags.result _ _ (λ tags h. h ∙ sym (tags_found (held l old) (registry old is) c.args.repo.now)) (rw c.as_str.ensures.text at (c.list_tags.ensures.found l clean is));
       settled = c.list_tags.ensures.settled;
       survives = c.list_tags.ensures.survives;
     }

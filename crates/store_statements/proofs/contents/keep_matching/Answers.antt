@@ -1,30 +1,26 @@
-use Rattle.sqlite.specs.Held.{state}
-use Rattle.store_statements.proofs.ContentRows.{inside_of, content_kept_if, digits_told}
+use Rattle.store_places.proofs.SourceLemmas.{of_bytes, of_extents}
+use Rattle.store_statements.specs.Clauses.{KeepsInside}
+use Rattle.store_statements.specs.StepsFrom.{KeepsContent}
 use Rattle.store_statements.proofs.contents.keep_matching.Goals as goal
 
-pub find_or_add_hashed-requires : goal.find_or_add_hashed-requires
-find_or_add_hashed-requires g c = record { hashed = digits_told c.args.digest.now c.args.bytes.now c.in-Some.sha256.now c.requires.matching c.in-Some.ensures.cases }
-
-pub returns-in-Some : goal.returns-in-Some
-returns-in-Some g c =
-    let old = state g.S.Store c.args.tx.now.conn.now in
+pub returns-in-Bytes : goal.returns-in-Bytes
+returns-in-Bytes g c =
+    let old = c.args.tx.now.conn.now in
+    let new = c.keep_bytes.new.tx.conn.now in
     record {
-      content = λ clean is.
-          content_kept_if old (state g.S.Store c.find_or_add_hashed.new.tx.conn.now) c.args.bytes.now c.find_or_add_hashed.result is
-          (c.find_or_add_hashed.ensures.inside clean (inside_of old is)) (c.find_or_add_hashed.ensures.content clean (inside_of old is));
-      kept = λ clean is. c.find_or_add_hashed.ensures.kept clean (inside_of old is);
-      same_reference = c.find_or_add_hashed.ensures.same_reference;
-      survives = c.find_or_add_hashed.ensures.survives;
+      content = of_bytes (λ k text. KeepsContent g.S.Store k old new c.keep_bytes.result text) c.args.source c.in-Bytes.bytes c.in-Bytes.is c.keep_bytes.ensures.content;
+      kept = of_bytes (λ k text. KeepsInside g.S.Store k old new) c.args.source c.in-Bytes.bytes c.in-Bytes.is c.keep_bytes.ensures.kept;
+      same_reference = c.keep_bytes.ensures.same_reference;
+      survives = c.keep_bytes.ensures.survives;
     }
 
-pub returns-in-None : goal.returns-in-None
-returns-in-None g c =
-    let old = state g.S.Store c.args.tx.now.conn.now in
+pub returns-in-Extents : goal.returns-in-Extents
+returns-in-Extents g c =
+    let old = c.args.tx.now.conn.now in
+    let new = c.keep_extents.new.tx.conn.now in
     record {
-      content = λ clean is.
-          content_kept_if old (state g.S.Store c.find_or_add.new.tx.conn.now) c.args.bytes.now c.find_or_add.result is
-          (c.find_or_add.ensures.inside clean (inside_of old is)) (c.find_or_add.ensures.content clean (inside_of old is));
-      kept = λ clean is. c.find_or_add.ensures.kept clean (inside_of old is);
-      same_reference = c.find_or_add.ensures.same_reference;
-      survives = c.find_or_add.ensures.survives;
+      content = of_extents (λ k text. KeepsContent g.S.Store k old new c.keep_extents.result text) c.args.source c.in-Extents.extents c.in-Extents.hash c.in-Extents.is c.keep_extents.ensures.content;
+      kept = of_extents (λ k text. KeepsInside g.S.Store k old new) c.args.source c.in-Extents.extents c.in-Extents.hash c.in-Extents.is (λ file within is. c.keep_extents.ensures.kept file);
+      same_reference = c.keep_extents.ensures.same_reference;
+      survives = c.keep_extents.ensures.survives;
     }

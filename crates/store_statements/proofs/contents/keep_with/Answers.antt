@@ -1,15 +1,26 @@
-use Rattle.sqlite.specs.Held.{state}
-use Rattle.store_statements.proofs.ContentRows.{inside_of, content_kept_if}
+use Rattle.store_places.proofs.SourceLemmas.{of_bytes, of_extents}
+use Rattle.store_statements.specs.Clauses.{KeepsInside}
+use Rattle.store_statements.specs.StepsFrom.{KeepsContent}
 use Rattle.store_statements.proofs.contents.keep_with.Goals as goal
 
-pub returns-in-Some-clause-content : goal.returns-in-Some-clause-content
-returns-in-Some-clause-content g c = λ clean is.
-    let old = state g.S.Store c.args.tx.now.conn.now in
-    content_kept_if old (state g.S.Store c.find_or_add_with.new.tx.conn.now) c.args.bytes.now c.find_or_add_with.result is
-    (c.find_or_add_with.ensures.inside clean (inside_of old is)) (c.find_or_add_with.ensures.content clean (inside_of old is))
+pub returns-in-Bytes : goal.returns-in-Bytes
+returns-in-Bytes g c =
+    let old = c.args.tx.now.conn.now in
+    let new = c.keep_hashed.new.tx.conn.now in
+    record {
+      content = of_bytes (λ k text. KeepsContent g.S.Store k old new c.keep_hashed.result text) c.args.source c.in-Bytes.bytes c.in-Bytes.is c.keep_hashed.ensures.content;
+      kept = of_bytes (λ k text. KeepsInside g.S.Store k old new) c.args.source c.in-Bytes.bytes c.in-Bytes.is c.keep_hashed.ensures.kept;
+      same_reference = c.keep_hashed.ensures.same_reference;
+      survives = c.keep_hashed.ensures.survives;
+    }
 
-pub returns-in-None-clause-content : goal.returns-in-None-clause-content
-returns-in-None-clause-content g c = λ clean is.
-    let old = state g.S.Store c.args.tx.now.conn.now in
-    content_kept_if old (state g.S.Store c.find_or_add.new.tx.conn.now) c.args.bytes.now c.find_or_add.result is
-    (c.find_or_add.ensures.inside clean (inside_of old is)) (c.find_or_add.ensures.content clean (inside_of old is))
+pub returns-in-Extents : goal.returns-in-Extents
+returns-in-Extents g c =
+    let old = c.args.tx.now.conn.now in
+    let new = c.keep_extents.new.tx.conn.now in
+    record {
+      content = of_extents (λ k text. KeepsContent g.S.Store k old new c.keep_extents.result text) c.args.source c.in-Extents.extents c.in-Extents.hash c.in-Extents.is c.keep_extents.ensures.content;
+      kept = of_extents (λ k text. KeepsInside g.S.Store k old new) c.args.source c.in-Extents.extents c.in-Extents.hash c.in-Extents.is (λ file within is. c.keep_extents.ensures.kept file);
+      same_reference = c.keep_extents.ensures.same_reference;
+      survives = c.keep_extents.ensures.survives;
+    }

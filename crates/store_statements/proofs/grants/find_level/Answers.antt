@@ -1,5 +1,6 @@
 use Rattle.sqlite.specs.Held.{state}
 use Rattle.sqlite.specs.Order.{column}
+use Rattle.store_contents.specs.Layouts.{Layout, InTables}
 use Rattle.store_statements.specs.Held.{held}
 use Rattle.store_statements.proofs.ReadRows.{reads}
 use Rattle.store_statements.proofs.Executed.{given}
@@ -17,11 +18,12 @@ pub returns : goal.returns
 returns g c =
     let old = state g.S.Store c.args.conn.now in
     let new = state g.S.Store c.query_all-shown.new.self in
-    let o = find (has_key c.args.token.now c.args.repo.now) (held old).grants in
-    let it = reads g.S.Store c.args.conn.now c.query_all-shown.new.self c.checked.new.conn _ _ c.query_all-shown.result c.query_all-shown.ensures.ok c.query_all-shown.ensures.err
-    (λ rows o. o ≡ option_map (λ row. level_of (natural_at row 0)) (slice_get rows 0)) c.first-found.result c.checked.result c.first-found.ensures c.checked.ensures.told
+    let it = λ (l : Layout).
+    let o = find (has_key c.args.token.now c.args.repo.now) (held l old).grants in
+    reads g.S.Store c.args.conn.now c.query_all-shown.new.self c.checked.new.conn _ _ c.query_all-shown.result c.query_all-shown.ensures.ok c.query_all-shown.ensures.err
+    (λ rows o. o ≡ option_map (λ row. level_of (natural_at row 0)) (slice_get rows 0)) c.first-found.result c.checked.result c.first-found.ensures c.checked.ensures.told {l = l}
     _ c.query_all-shown.ensures.survives (λ is. is.holds.known.grant_texts.find.plain) _ (given c.params-to_sql.ensures (given c.params-to_sql-2.ensures refl))
     (λ v. v ≡ option_map (λ r. level_of (natural_at r 3)) o) (λ rows. rows.items ≡ map (λ r. column r 3 ∷ []) (option_to_list o))
     (shows_level c.args.token.now c.args.repo.now old new c.query_all-shown.result)
     (λ rows v q p. p ∙ first_shown (λ row. level_of (natural_at row 0)) (λ r. column r 3 ∷ []) o rows.items q) in
-    record { found = it.0; settled = it.1; survives = it.2 }
+    record { found = λ l. (it l).0; settled = λ l. (it l).1; survives = (it InTables).2 }

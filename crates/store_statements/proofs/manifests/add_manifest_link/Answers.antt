@@ -15,7 +15,7 @@ returns g c =
     let content : SFits w64 c.get.result = search rules in
     let subject = option_map (λ (t : Bor (List ℕ)). t.now) c.args.subject in
     record {
-      added = makes_from g.S.Store c.args.tx.now.conn.now c.execute.new.self.conn.now _ _ c.execute.result c.execute.ensures.runs _ (given c.params-to_sql.ensures (given c.params-to_sql-2.ensures (given (c.params-to_sql-3.ensures ∙ ap Int whole) (given (c.params-to_sql-4.ensures ∙ ap Int (to_z-of_z w64 c.from.result kind ∙ c.from.ensures ∙ ap pos (c.number.ensures ∙ number_is c.args.kind))) (given_as (c.params-to_sql-5.ensures ∙ subject_value c.args.subject) (bound_text subject) (given (c.params-to_sql-6.ensures ∙ ap Int (to_z-of_z w64 c.get.result content ∙ c.get.ensures)) refl)))))) c.done.result _ _ c.done.ensures.ok
+      added = λ l. makes_from g.S.Store c.args.tx.now.conn.now c.execute.new.self.conn.now _ _ c.execute.result c.execute.ensures.runs _ (given c.params-to_sql.ensures (given c.params-to_sql-2.ensures (given (c.params-to_sql-3.ensures ∙ ap Int whole) (given (c.params-to_sql-4.ensures ∙ ap Int (to_z-of_z w64 c.from.result kind ∙ c.from.ensures ∙ ap pos (c.number.ensures ∙ number_is c.args.kind))) (given_as (c.params-to_sql-5.ensures ∙ subject_value c.args.subject) (bound_text subject) (given (c.params-to_sql-6.ensures ∙ ap Int (to_z-of_z w64 c.get.result content ∙ c.get.ensures)) refl)))))) c.done.result _ _ c.done.ensures.ok
           (added_by c.args.repo.now c.args.digest.now c.args.size c.args.kind subject c.args.content.id (state g.S.Store c.args.tx.now.conn.now) (state g.S.Store c.execute.new.self.conn.now) c.execute.result);
       kept = keeps g.S.Store c.args.tx.now.conn.now c.execute.new.self.conn.now _ _ c.execute.result c.execute.ensures.runs;
       same_reference = c.execute.ensures.same_reference;

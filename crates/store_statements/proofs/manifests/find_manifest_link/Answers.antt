@@ -1,5 +1,6 @@
 use Rattle.sqlite.specs.Held.{state}
 use Rattle.sqlite.specs.Order.{column}
+use Rattle.store_contents.specs.Layouts.{Layout, InTables}
 use Rattle.store_statements.specs.Held.{held}
 use Rattle.store_statements.proofs.ReadRows.{reads, reads_kept}
 use Rattle.store_statements.proofs.Executed.{given}
@@ -16,16 +17,17 @@ pub returns : goal.returns
 returns g c =
     let old = state g.S.Store c.args.conn.now in
     let new = state g.S.Store c.query_all-shown.new.self in
-    let o = find (has_key c.args.repo.now c.args.digest.now) (held old).manifests in
-    let it = reads g.S.Store c.args.conn.now c.query_all-shown.new.self c.checked.new.conn _ _ c.query_all-shown.result c.query_all-shown.ensures.ok c.query_all-shown.ensures.err
-    (λ rows o. o ≡ option_map link_shown (slice_get rows 0)) c.first-found.result c.checked.result c.first-found.ensures c.checked.ensures.told
+    let it = λ (l : Layout).
+    let o = find (has_key c.args.repo.now c.args.digest.now) (held l old).manifests in
+    reads g.S.Store c.args.conn.now c.query_all-shown.new.self c.checked.new.conn _ _ c.query_all-shown.result c.query_all-shown.ensures.ok c.query_all-shown.ensures.err
+    (λ rows o. o ≡ option_map link_shown (slice_get rows 0)) c.first-found.result c.checked.result c.first-found.ensures c.checked.ensures.told {l = l}
     _ c.query_all-shown.ensures.survives (λ is. is.holds.known.manifest_texts.find.plain) _ (given c.params-to_sql.ensures (given c.params-to_sql-2.ensures refl))
     (λ v. v ≡ option_map manifest_link o) (λ rows. rows.items ≡ map (λ r. column r 3 ∷ column r 4 ∷ column r 6 ∷ []) (option_to_list o))
     (link_rows_shown old new c.args.repo.now c.args.digest.now c.query_all-shown.result)
     (λ rows v q p. p ∙ first_shown link_shown (λ r. column r 3 ∷ column r 4 ∷ column r 6 ∷ []) o rows.items q) in
     record {
-      found = it.0;
-      settled = it.1;
-      kept = reads_kept g.S.Store c.args.conn.now c.query_all-shown.new.self c.checked.new.conn _ _ c.query_all-shown.result c.query_all-shown.ensures.ok c.query_all-shown.ensures.err (λ rows o. o ≡ option_map link_shown (slice_get rows 0)) c.first-found.result c.checked.result c.first-found.ensures c.checked.ensures.told g.met.S.Store.settled c.query_all-shown.ensures.survives (λ is. is.holds.known.manifest_texts.find.plain);
-      survives = it.2;
+      found = λ l. (it l).0;
+      settled = λ l. (it l).1;
+      kept = λ l. reads_kept g.S.Store c.args.conn.now c.query_all-shown.new.self c.checked.new.conn _ _ c.query_all-shown.result c.query_all-shown.ensures.ok c.query_all-shown.ensures.err (λ rows o. o ≡ option_map link_shown (slice_get rows 0)) c.first-found.result c.checked.result c.first-found.ensures c.checked.ensures.told {l = l} g.met.S.Store.settled c.query_all-shown.ensures.survives (λ is. is.holds.known.manifest_texts.find.plain);
+      survives = (it InTables).2;
     }

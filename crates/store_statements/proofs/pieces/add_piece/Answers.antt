@@ -13,7 +13,7 @@ returns g c =
     let sized : to_z w64 c.args.size ≡ pos c.args.size = is_whole c.args.size c.requires.size_fits in
     let range : SFits w64 c.get.result = search rules in
     record {
-      added = makes_from g.S.Store c.args.tx.now.conn.now c.execute.new.self.conn.now _ _ c.execute.result c.execute.ensures.runs _ (given c.params-to_sql.ensures (given (c.params-to_sql-2.ensures ∙ ap Int numbered) (given (c.params-to_sql-3.ensures ∙ ap Int begun) (given (c.params-to_sql-4.ensures ∙ ap Int sized) (given (c.params-to_sql-5.ensures ∙ ap Int (to_z-of_z w64 c.get.result range ∙ c.get.ensures)) refl))))) c.done.result _ _ c.done.ensures.ok
+      added = λ l. makes_from g.S.Store c.args.tx.now.conn.now c.execute.new.self.conn.now _ _ c.execute.result c.execute.ensures.runs _ (given c.params-to_sql.ensures (given (c.params-to_sql-2.ensures ∙ ap Int numbered) (given (c.params-to_sql-3.ensures ∙ ap Int begun) (given (c.params-to_sql-4.ensures ∙ ap Int sized) (given (c.params-to_sql-5.ensures ∙ ap Int (to_z-of_z w64 c.get.result range ∙ c.get.ensures)) refl))))) c.done.result _ _ c.done.ensures.ok
           (added_by c.args.repo.now c.args.number c.args.start c.args.size c.args.content.id (state g.S.Store c.args.tx.now.conn.now) (state g.S.Store c.execute.new.self.conn.now) c.execute.result);
       kept = keeps g.S.Store c.args.tx.now.conn.now c.execute.new.self.conn.now _ _ c.execute.result c.execute.ensures.runs;
       same_reference = c.execute.ensures.same_reference;

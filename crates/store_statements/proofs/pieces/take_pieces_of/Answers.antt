@@ -9,7 +9,7 @@ pub returns : goal.returns
 returns g c =
     let numbered : to_z w64 c.args.number ≡ pos c.args.number = is_whole c.args.number c.requires.fits in
     record {
-      taken = makes g.S.Store c.args.tx.now.conn.now c.execute.new.self.conn.now _ _ c.execute.result c.execute.ensures.runs _ (given c.params-to_sql.ensures (given (c.params-to_sql-2.ensures ∙ ap Int numbered) refl)) c.done.result _ c.done.ensures.ok
+      taken = λ l. makes g.S.Store c.args.tx.now.conn.now c.execute.new.self.conn.now _ _ c.execute.result c.execute.ensures.runs _ (given c.params-to_sql.ensures (given (c.params-to_sql-2.ensures ∙ ap Int numbered) refl)) c.done.result _ c.done.ensures.ok
           (took_of_by c.args.repo.now c.args.number (state g.S.Store c.args.tx.now.conn.now) (state g.S.Store c.execute.new.self.conn.now) c.execute.result);
       kept = keeps g.S.Store c.args.tx.now.conn.now c.execute.new.self.conn.now _ _ c.execute.result c.execute.ensures.runs;
       same_reference = c.execute.ensures.same_reference;

@@ -9,7 +9,7 @@ pub returns : goal.returns
 returns g c =
     let whole : to_z w64 c.args.quota ≡ pos c.args.quota = is_whole c.args.quota c.requires.fits in
     record {
-      added = makes_from g.S.Store c.args.tx.now.conn.now c.execute.new.self.conn.now _ _ c.execute.result c.execute.ensures.runs _ (given c.params-to_sql.ensures (given (c.params-to_sql-2.ensures ∙ ap Int whole) refl)) c.done.result _ _ c.done.ensures.ok
+      added = λ l. makes_from g.S.Store c.args.tx.now.conn.now c.execute.new.self.conn.now _ _ c.execute.result c.execute.ensures.runs _ (given c.params-to_sql.ensures (given (c.params-to_sql-2.ensures ∙ ap Int whole) refl)) c.done.result _ _ c.done.ensures.ok
           (added_by c.args.name.now c.args.quota (state g.S.Store c.args.tx.now.conn.now) (state g.S.Store c.execute.new.self.conn.now) c.execute.result);
       kept = keeps g.S.Store c.args.tx.now.conn.now c.execute.new.self.conn.now _ _ c.execute.result c.execute.ensures.runs;
       same_reference = c.execute.ensures.same_reference;

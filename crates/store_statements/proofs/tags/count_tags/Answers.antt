@@ -1,5 +1,6 @@
 use Rattle.sqlite.specs.Held.{state}
 use Rattle.sqlite.specs.Order.{column}
+use Rattle.store_contents.specs.Layouts.{Layout, InTables}
 use Rattle.store_statements.specs.Held.{held}
 use Rattle.store_statements.proofs.ReadRows.{reads}
 use Rattle.store_statements.proofs.Executed.{given}
@@ -14,11 +15,12 @@ pub returns : goal.returns
 returns g c =
     let old = state g.S.Store c.args.conn.now in
     let new = state g.S.Store c.query_all-shown.new.self in
-    let xs = filter (of_first c.args.repo.now) (held old).tags in
-    let it = reads g.S.Store c.args.conn.now c.query_all-shown.new.self c.checked.new.conn _ _ c.query_all-shown.result c.query_all-shown.ensures.ok c.query_all-shown.ensures.err
-    (λ rows n. n ≡ length rows) c.count_rows-found.result c.checked.result c.count_rows-found.ensures c.checked.ensures.told
+    let it = λ (l : Layout).
+    let xs = filter (of_first c.args.repo.now) (held l old).tags in
+    reads g.S.Store c.args.conn.now c.query_all-shown.new.self c.checked.new.conn _ _ c.query_all-shown.result c.query_all-shown.ensures.ok c.query_all-shown.ensures.err
+    (λ rows n. n ≡ length rows) c.count_rows-found.result c.checked.result c.count_rows-found.ensures c.checked.ensures.told {l = l}
     _ c.query_all-shown.ensures.survives (λ is. is.holds.known.tag_texts.list.plain) _ (given c.params-to_sql.ensures refl)
     (λ n. n ≡ length xs) (λ rows. IsPermutation (map (λ r. column r 2 ∷ []) xs) rows.items)
     (tags_shown old new c.args.repo.now c.query_all-shown.result)
     (λ rows n q p. p ∙ counted (λ r. column r 2 ∷ []) xs rows.items q) in
-    record { found = it.0; settled = it.1; survives = it.2 }
+    record { found = λ l. (it l).0; settled = λ l. (it l).1; survives = (it InTables).2 }

@@ -1,5 +1,6 @@
 use Rattle.sqlite.specs.Held.{state}
 use Rattle.sqlite.specs.Order.{column}
+use Rattle.store_contents.specs.Layouts.{Layout, InTables}
 use Rattle.store_statements.specs.Held.{held}
 use Rattle.store_statements.proofs.ReadRows.{reads, reads_kept}
 use Rattle.store_statements.proofs.Executed.{given}
@@ -14,16 +15,17 @@ pub returns : goal.returns
 returns g c =
     let old = state g.S.Store c.args.conn.now in
     let new = state g.S.Store c.query_all-shown.new.self in
-    let xs = filter (names_digest c.args.repo.now c.args.digest.now) (held old).tags in
-    let it = reads g.S.Store c.args.conn.now c.query_all-shown.new.self c.checked.new.conn _ _ c.query_all-shown.result c.query_all-shown.ensures.ok c.query_all-shown.ensures.err
-    (λ rows n. n ≡ length rows) c.count_rows-found.result c.checked.result c.count_rows-found.ensures c.checked.ensures.told
+    let it = λ (l : Layout).
+    let xs = filter (names_digest c.args.repo.now c.args.digest.now) (held l old).tags in
+    reads g.S.Store c.args.conn.now c.query_all-shown.new.self c.checked.new.conn _ _ c.query_all-shown.result c.query_all-shown.ensures.ok c.query_all-shown.ensures.err
+    (λ rows n. n ≡ length rows) c.count_rows-found.result c.checked.result c.count_rows-found.ensures c.checked.ensures.told {l = l}
     _ c.query_all-shown.ensures.survives (λ is. is.holds.known.tag_texts.named.plain) _ (given c.params-to_sql.ensures (given c.params-to_sql-2.ensures refl))
     (λ n. n ≡ length xs) (λ rows. IsPermutation (map (λ r. column r 2 ∷ []) xs) rows.items)
     (named_shown old new c.args.repo.now c.args.digest.now c.query_all-shown.result)
     (λ rows n q p. p ∙ counted (λ r. column r 2 ∷ []) xs rows.items q) in
     record {
-      found = it.0;
-      settled = it.1;
-      kept = reads_kept g.S.Store c.args.conn.now c.query_all-shown.new.self c.checked.new.conn _ _ c.query_all-shown.result c.query_all-shown.ensures.ok c.query_all-shown.ensures.err (λ rows n. n ≡ length rows) c.count_rows-found.result c.checked.result c.count_rows-found.ensures c.checked.ensures.told g.met.S.Store.settled c.query_all-shown.ensures.survives (λ is. is.holds.known.tag_texts.named.plain);
-      survives = it.2;
+      found = λ l. (it l).0;
+      settled = λ l. (it l).1;
+      kept = λ l. reads_kept g.S.Store c.args.conn.now c.query_all-shown.new.self c.checked.new.conn _ _ c.query_all-shown.result c.query_all-shown.ensures.ok c.query_all-shown.ensures.err (λ rows n. n ≡ length rows) c.count_rows-found.result c.checked.result c.count_rows-found.ensures c.checked.ensures.told {l = l} g.met.S.Store.settled c.query_all-shown.ensures.survives (λ is. is.holds.known.tag_texts.named.plain);
+      survives = (it InTables).2;
     }

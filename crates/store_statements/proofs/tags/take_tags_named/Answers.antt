@@ -7,7 +7,7 @@ use Rattle.store_statements.proofs.tags.take_tags_named.Goals as goal
 pub returns : goal.returns
 returns g c =
     record {
-      taken = makes g.S.Store c.args.tx.now.conn.now c.execute.new.self.conn.now _ _ c.execute.result c.execute.ensures.runs _ (given c.params-to_sql.ensures (given c.params-to_sql-2.ensures refl)) c.done.result _ c.done.ensures.ok
+      taken = λ l. makes g.S.Store c.args.tx.now.conn.now c.execute.new.self.conn.now _ _ c.execute.result c.execute.ensures.runs _ (given c.params-to_sql.ensures (given c.params-to_sql-2.ensures refl)) c.done.result _ c.done.ensures.ok
           (took_named c.args.repo.now c.args.digest.now (state g.S.Store c.args.tx.now.conn.now) (state g.S.Store c.execute.new.self.conn.now) c.execute.result);
       kept = keeps g.S.Store c.args.tx.now.conn.now c.execute.new.self.conn.now _ _ c.execute.result c.execute.ensures.runs;
       same_reference = c.execute.ensures.same_reference;

@@ -2,6 +2,7 @@ use Rattle.std.proofs.Common.{◌∙◌, ◌<◌, length, arith, refl, subst, po
 use Rattle.std.proofs.lemmas.List.{take_all}
 use Rattle.sqlite.specs.Held.{state}
 use Rattle.store_statements.specs.Held.{held}
+use Rattle.store_contents.specs.Layouts.{InTables}
 use Rattle.store_writes.specs.Naming.{ContentsGone}
 use Rattle.store_writes.proofs.ContentsFreed.{so_far_none, so_far_more}
 use Rattle.std.proofs.lemmas.Result.{IfOk-from_err}
@@ -26,7 +27,7 @@ pub returns : goal.returns
 returns g c = record {
   taken = λ clean is.
       let it = c.loop-id.invariant.gone.gone clean is in
-      (it.0, subst (ContentsGone (held (state g.S.Store c.args.tx.now.conn.now)) (held (state g.S.Store c.loop-id.tx.conn.now))) (take_all c.loop-id.id-index c.args.ids.now (omega arith)) it.1);
+      (it.0, subst (ContentsGone (held InTables (state g.S.Store c.args.tx.now.conn.now)) (held InTables (state g.S.Store c.loop-id.tx.conn.now))) (take_all c.loop-id.id-index c.args.ids.now (omega arith)) it.1);
   kept = λ clean is. c.loop-id.invariant.gone.kept clean is;
   same_reference = c.loop-id.invariant.same_reference;
   survives = c.loop-id.invariant.gone.survives;

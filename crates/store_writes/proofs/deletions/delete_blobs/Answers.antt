@@ -11,11 +11,11 @@ use Rattle.store_writes.proofs.deletions.delete_blobs.Goals as goal
 
 pub returns : goal.returns
 returns g c = record {
-  made = made_tables g.S.Store c.args.conn.now c.make.new.conn c.make.result (λ w. delete_blobs w c.args.repo.now c.args.digests.now) (without_blob_links c.args.repo.now c.args.digests.now) (rw c.as_str.ensures.text at (c.make.ensures.made (λ clean. tt))) (λ t is. blobs_taken t c.args.repo.now c.args.digests.now is);
-  stays = λ clean is. less c.make.result (λ it. ap (λ (t : Tables). t.contents) it.1 ∙ links_leave c.as_str.result.now c.args.digests.now (held (state g.S.Store c.args.conn.now))) (c.make.ensures.made (λ early. tt) clean is);
-  memory = c.make.ensures.memory (λ clean. tt);
-  back = c.make.ensures.back (λ clean. tt);
-  crash = crash_tables g.S.Store c.args.conn.now c.make.new.conn c.make.result (λ w. delete_blobs w c.args.repo.now c.args.digests.now) (without_blob_links c.args.repo.now c.args.digests.now) (rw c.as_str.ensures.text at (c.make.ensures.crash (λ clean. tt))) (λ t is. blobs_taken t c.args.repo.now c.args.digests.now is);
+  made = λ l. made_tables g.S.Store c.args.conn.now c.make.new.conn c.make.result (λ w. delete_blobs w c.args.repo.now c.args.digests.now) (without_blob_links c.args.repo.now c.args.digests.now) (rw c.as_str.ensures.text at (c.make.ensures.made l tt (λ clean. tt))) (λ t is. blobs_taken t c.args.repo.now c.args.digests.now is);
+  stays = λ l clean is. less c.make.result (λ it. ap (λ (t : Tables). t.contents) it.1 ∙ links_leave c.as_str.result.now c.args.digests.now (held l (state g.S.Store c.args.conn.now))) (c.make.ensures.made l tt (λ early. tt) clean is);
+  memory = λ l. c.make.ensures.memory l tt (λ clean. tt);
+  back = λ l. c.make.ensures.back l tt (λ clean. tt);
+  crash = λ l. crash_tables g.S.Store c.args.conn.now c.make.new.conn c.make.result (λ w. delete_blobs w c.args.repo.now c.args.digests.now) (without_blob_links c.args.repo.now c.args.digests.now) (rw c.as_str.ensures.text at (c.make.ensures.crash l tt (λ clean. tt))) (λ t is. blobs_taken t c.args.repo.now c.args.digests.now is);
   survives = c.make.ensures.survives;
 }
 

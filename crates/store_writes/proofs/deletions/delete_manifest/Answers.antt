@@ -9,11 +9,11 @@ use Rattle.store_writes.proofs.deletions.delete_manifest.Goals as goal
 
 pub returns : goal.returns
 returns g c = record {
-  made = made_tables g.S.Store c.args.conn.now c.make.new.conn c.make.result (λ w. delete_manifest w c.args.repo.now c.args.digest.now) (without_manifest c.args.repo.now c.args.digest.now) (rw c.as_str.ensures.text at rw c.as_str-2.ensures.text at (c.make.ensures.made (λ clean. tt))) (λ t is. manifest_taken t c.args.repo.now c.args.digest.now is);
-  stays = λ clean is. less c.make.result (λ it. ap (λ (t : Tables). t.contents) it.1) (c.make.ensures.made (λ early. tt) clean is);
-  memory = c.make.ensures.memory (λ clean. tt);
-  back = c.make.ensures.back (λ clean. tt);
-  crash = crash_tables g.S.Store c.args.conn.now c.make.new.conn c.make.result (λ w. delete_manifest w c.args.repo.now c.args.digest.now) (without_manifest c.args.repo.now c.args.digest.now) (rw c.as_str.ensures.text at rw c.as_str-2.ensures.text at (c.make.ensures.crash (λ clean. tt))) (λ t is. manifest_taken t c.args.repo.now c.args.digest.now is);
+  made = λ l. made_tables g.S.Store c.args.conn.now c.make.new.conn c.make.result (λ w. delete_manifest w c.args.repo.now c.args.digest.now) (without_manifest c.args.repo.now c.args.digest.now) (rw c.as_str.ensures.text at rw c.as_str-2.ensures.text at (c.make.ensures.made l tt (λ clean. tt))) (λ t is. manifest_taken t c.args.repo.now c.args.digest.now is);
+  stays = λ l clean is. less c.make.result (λ it. ap (λ (t : Tables). t.contents) it.1) (c.make.ensures.made l tt (λ early. tt) clean is);
+  memory = λ l. c.make.ensures.memory l tt (λ clean. tt);
+  back = λ l. c.make.ensures.back l tt (λ clean. tt);
+  crash = λ l. crash_tables g.S.Store c.args.conn.now c.make.new.conn c.make.result (λ w. delete_manifest w c.args.repo.now c.args.digest.now) (without_manifest c.args.repo.now c.args.digest.now) (rw c.as_str.ensures.text at rw c.as_str-2.ensures.text at (c.make.ensures.crash l tt (λ clean. tt))) (λ t is. manifest_taken t c.args.repo.now c.args.digest.now is);
   survives = c.make.ensures.survives;
 }
 

@@ -11,15 +11,15 @@ returns g c =
     let mid = c.take_manifest_link.new.tx.conn.now in
     let new = c.take_tags_named.new.tx.conn.now in
     record {
-      taken = both_change g.S.Store old mid new c.take_tags_named.result (manifests_without (has_key c.args.repo.now c.args.digest.now)) (tags_without (names_digest c.args.repo.now c.args.digest.now)) c.in_ok-take_manifest_link.ensures.taken c.take_tags_named.ensures.taken c.take_tags_named.ensures.survives;
-      kept = both_kept g.S.Store old mid new (manifests_without (has_key c.args.repo.now c.args.digest.now)) c.in_ok-take_manifest_link.ensures.taken c.take_manifest_link.ensures.kept c.take_tags_named.ensures.kept c.take_tags_named.ensures.survives;
+      taken = λ l. both_change g.S.Store l old mid new c.take_tags_named.result (manifests_without (has_key c.args.repo.now c.args.digest.now)) (tags_without (names_digest c.args.repo.now c.args.digest.now)) (c.in_ok-take_manifest_link.ensures.taken l) (c.take_tags_named.ensures.taken l) c.take_tags_named.ensures.survives;
+      kept = λ l. both_kept g.S.Store l old mid new (manifests_without (has_key c.args.repo.now c.args.digest.now)) (c.in_ok-take_manifest_link.ensures.taken l) (c.take_manifest_link.ensures.kept l) (c.take_tags_named.ensures.kept l) c.take_tags_named.ensures.survives;
       same_reference = c.take_tags_named.ensures.same_reference ∙ c.take_manifest_link.ensures.same_reference;
       survives = both_last g.S.Store old mid new c.take_manifest_link.ensures.survives c.take_tags_named.ensures.survives;
     }
 
 pub returns-in_err-take_manifest_link : goal.returns-in_err-take_manifest_link
 returns-in_err-take_manifest_link g c = record {
-  taken = λ clean is. IfOk-from_err c.from_residual.result _ c.from_residual.ensures.0;
+  taken = λ l clean is. IfOk-from_err c.from_residual.result _ c.from_residual.ensures.0;
   kept = c.take_manifest_link.ensures.kept;
   same_reference = c.take_manifest_link.ensures.same_reference;
   survives = c.take_manifest_link.ensures.survives;

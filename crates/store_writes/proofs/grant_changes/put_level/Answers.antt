@@ -18,11 +18,11 @@ returns-then-count-eq0 g c =
     let new = state g.S.Store c.add_grant.new.tx.conn.now in
     let early : HasCleanDisk new → HasCleanDisk mid = was_clean c.add_grant.ensures.survives in
     record {
-      put = λ clean is.
-          let none = none_counted (has_key c.args.token.now c.args.repo.now) (held old).grants (sym (c.in_ok-count.ensures.counted (early clean) is) ∙ c.if-count-eq0.true) in
-          let became = c.in_ok-count.ensures.set (early clean) is in
-          then_ok c.add_grant.result (λ came. (came.ready, level_came old mid new c.args.token.now c.args.repo.now c.args.level none became came)) (c.add_grant.ensures.added clean became.0 (fresh_level old mid c.args.token.now c.args.repo.now c.args.level none became));
-      kept = λ clean is. commit_then old mid new (c.set_level.ensures.kept (early clean) is) (c.add_grant.ensures.kept clean (c.in_ok-count.ensures.set (early clean) is).0);
+      put = λ l clean is.
+          let none = none_counted (has_key c.args.token.now c.args.repo.now) (held l old).grants (sym (c.in_ok-count.ensures.counted l (early clean) is) ∙ c.if-count-eq0.true) in
+          let became = c.in_ok-count.ensures.set l (early clean) is in
+          then_ok c.add_grant.result (λ came. (came.ready, level_came old mid new c.args.token.now c.args.repo.now c.args.level none became came)) (c.add_grant.ensures.added l clean became.0 (fresh_level old mid c.args.token.now c.args.repo.now c.args.level none became));
+      kept = λ l clean is. commit_then old mid new (c.set_level.ensures.kept l (early clean) is) (c.add_grant.ensures.kept l clean (c.in_ok-count.ensures.set l (early clean) is).0);
       same_reference = c.add_grant.ensures.same_reference ∙ c.set_level.ensures.same_reference;
       survives = survives_both old mid new c.set_level.ensures.survives c.add_grant.ensures.survives;
     }
@@ -32,18 +32,18 @@ returns-else-count-eq0 g c =
     let old = state g.S.Store c.args.tx.now.conn.now in
     let mid = state g.S.Store c.set_level.new.tx.conn.now in
     record {
-      put = λ clean is.
-          let some : length (filter (has_key c.args.token.now c.args.repo.now) (held old).grants) ≢ 0 = λ e. c.if-count-eq0.false (c.in_ok-count.ensures.counted clean is ∙ e) in
-          let became = c.in_ok-count.ensures.set clean is in (became.0, level_was_set old mid c.args.token.now c.args.repo.now c.args.level (some_counted (has_key c.args.token.now c.args.repo.now) _ some) became);
-      kept = λ clean is. c.set_level.ensures.kept clean is;
+      put = λ l clean is.
+          let some : length (filter (has_key c.args.token.now c.args.repo.now) (held l old).grants) ≢ 0 = λ e. c.if-count-eq0.false (c.in_ok-count.ensures.counted l clean is ∙ e) in
+          let became = c.in_ok-count.ensures.set l clean is in (became.0, level_was_set old mid c.args.token.now c.args.repo.now c.args.level (some_counted (has_key c.args.token.now c.args.repo.now) _ some) became);
+      kept = λ l clean is. c.set_level.ensures.kept l clean is;
       same_reference = c.set_level.ensures.same_reference;
       survives = c.set_level.ensures.survives;
     }
 
 pub returns-in_err-count : goal.returns-in_err-count
 returns-in_err-count g c = record {
-  put = λ clean is. IfOk-from_err c.from_residual.result _ c.from_residual.ensures.0;
-  kept = λ clean is. c.set_level.ensures.kept clean is;
+  put = λ l clean is. IfOk-from_err c.from_residual.result _ c.from_residual.ensures.0;
+  kept = λ l clean is. c.set_level.ensures.kept l clean is;
   same_reference = c.set_level.ensures.same_reference;
   survives = c.set_level.ensures.survives;
 }

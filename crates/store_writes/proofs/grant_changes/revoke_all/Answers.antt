@@ -10,11 +10,11 @@ use Rattle.store_writes.proofs.grant_changes.revoke_all.Goals as goal
 
 pub returns : goal.returns
 returns g c = record {
-  made = made_tables g.S.Store c.args.conn.now c.make.new.conn c.make.result (λ w. revoke_all w c.args.token.now) (grants_without (of_first c.args.token.now)) (rw c.as_str.ensures.text at (c.make.ensures.made (λ clean. tt))) (λ t is. token_taken t c.args.token.now is);
-  memory = c.make.ensures.memory (λ clean. tt);
-  back = c.make.ensures.back (λ clean. tt);
-  crash = crash_tables g.S.Store c.args.conn.now c.make.new.conn c.make.result (λ w. revoke_all w c.args.token.now) (grants_without (of_first c.args.token.now)) (rw c.as_str.ensures.text at (c.make.ensures.crash (λ clean. tt))) (λ t is. token_taken t c.args.token.now is);
-  stays = λ clean is. less c.make.result (λ it. ap (λ (t : Tables). t.contents) it.1) (c.make.ensures.made (λ early. tt) clean is);
+  made = λ l. made_tables g.S.Store c.args.conn.now c.make.new.conn c.make.result (λ w. revoke_all w c.args.token.now) (grants_without (of_first c.args.token.now)) (rw c.as_str.ensures.text at (c.make.ensures.made l tt (λ clean. tt))) (λ t is. token_taken t c.args.token.now is);
+  memory = λ l. c.make.ensures.memory l tt (λ clean. tt);
+  back = λ l. c.make.ensures.back l tt (λ clean. tt);
+  crash = λ l. crash_tables g.S.Store c.args.conn.now c.make.new.conn c.make.result (λ w. revoke_all w c.args.token.now) (grants_without (of_first c.args.token.now)) (rw c.as_str.ensures.text at (c.make.ensures.crash l tt (λ clean. tt))) (λ t is. token_taken t c.args.token.now is);
+  stays = λ l clean is. less c.make.result (λ it. ap (λ (t : Tables). t.contents) it.1) (c.make.ensures.made l tt (λ early. tt) clean is);
   survives = c.make.ensures.survives;
 }
 

@@ -5,6 +5,7 @@ use Rattle.sqlite.specs.Held.{state}
 use Rattle.store_statements.specs.declared.blobs.BlobLink.{BlobLink}
 use Rattle.store_statements.proofs.SettledAfter.{stays_then}
 use Rattle.store_statements.proofs.Transactions.{survives_all}
+use Rattle.store_contents.specs.Layouts.{InTables}
 use Rattle.store_writes.proofs.KnownEnds.{done, still_known, end_told, ends_done, ends_failed, ends_kept, ends_undone}
 use Rattle.store_statements.proofs.WritesAfterReads.{memory_told}
 use Rattle.store_statements.proofs.CleanBefore.{was_clean}
@@ -21,7 +22,7 @@ returns-then-number-gt-LARGEST g c = record {
   ended = λ clean is. tt;
   memory = λ clean is memory. absurd (never_done memory);
   back = λ clean is. tt;
-  crash = λ clean is. ends_kept g.S.Store c.args.conn.now c.args.conn.now c.args.repo.now c.args.number c.args.digest.now is (kept_stayed g.S.Store g.met.S.Store.settled c.args.conn.now c.args.conn.now is (is, refl));
+  crash = λ clean is. ends_kept InTables g.S.Store c.args.conn.now c.args.conn.now c.args.repo.now c.args.number c.args.digest.now is (kept_stayed g.S.Store g.met.S.Store.settled c.args.conn.now c.args.conn.now is (is, refl));
   stays = λ clean is. refl;
   survives = survives_here (state g.S.Store c.args.conn.now);
 }
@@ -32,7 +33,7 @@ returns-in-Ok g c = record {
       let mid = state g.S.Store c.find_known.new.conn in
       let late : HasCleanDisk mid = was_clean c.finish_whole.ensures.survives clean in
       rw (c.as_str-repo.ensures.text, c.as_str-digest.ensures.text) at (done (state g.S.Store c.args.conn.now) mid (state g.S.Store c.finish_whole.new.conn) c.as_str-repo.result.now c.args.number c.as_str-digest.result.now c.in-Ok-Some.link
-      is (c.in-Ok-Some.ensures.settled late is refl) (sym c.in-Ok-Some.field-0-is ∙ c.in-Ok-Some.ensures.found late is) (c.in-Ok.ensures.made (λ clean. still_known (state g.S.Store c.args.conn.now) (state g.S.Store c.find_known.new.conn) (c.in-Ok-Some.ensures.settled clean is refl) c.as_str-repo.result.now c.args.number c.as_str-digest.result.now c.in-Ok-Some.link
+      is (c.in-Ok-Some.ensures.settled late is refl) (sym c.in-Ok-Some.field-0-is ∙ c.in-Ok-Some.ensures.found late is) (c.in-Ok.ensures.made InTables (λ clean. still_known (state g.S.Store c.args.conn.now) (state g.S.Store c.find_known.new.conn) (c.in-Ok-Some.ensures.settled clean is refl) c.as_str-repo.result.now c.args.number c.as_str-digest.result.now c.in-Ok-Some.link
       (sym c.in-Ok-Some.field-0-is ∙ c.in-Ok-Some.ensures.found clean is)) clean (c.in-Ok-Some.ensures.settled late is refl).0));
   known = λ fits clean is.
       let late : HasCleanDisk (state g.S.Store c.find_known.new.conn) = was_clean c.finish_whole.ensures.survives clean in
@@ -42,7 +43,7 @@ returns-in-Ok g c = record {
       let late : HasCleanDisk mid = was_clean c.finish_whole.ensures.survives clean in
       let stays = c.in-Ok-Some.ensures.settled late is refl in
       rw (c.as_str-repo.ensures.text, c.as_str-digest.ensures.text) at (end_told (state g.S.Store c.args.conn.now) mid c.as_str-repo.result.now c.args.number c.as_str-digest.result.now c.in-Ok-Some.link c.in-Ok.came
-      is stays (sym c.in-Ok-Some.field-0-is ∙ c.in-Ok-Some.ensures.found late is) (c.in-Ok.ensures.came clean stays.0));
+      is stays (sym c.in-Ok-Some.field-0-is ∙ c.in-Ok-Some.ensures.found late is) (c.in-Ok.ensures.came InTables clean stays.0));
   memory = λ clean is memory. absurd (never_done memory);
   back = λ clean is. tt;
   crash = λ clean is.
@@ -50,11 +51,11 @@ returns-in-Ok g c = record {
       let mid = state g.S.Store c.find_known.new.conn in
       let late : HasCleanDisk mid = was_clean c.finish_whole.ensures.survives clean in
       let stays = c.in-Ok-Some.ensures.settled late is refl in
-      rw (c.as_str-repo.ensures.text, c.as_str-digest.ensures.text) at (ends_done g.S.Store c.args.conn.now c.finish_whole.new.conn c.as_str-repo.result.now c.args.number c.as_str-digest.result.now c.find_known.new.conn c.in-Ok-Some.link is stays (sym c.in-Ok-Some.field-0-is ∙ c.in-Ok-Some.ensures.found late is) (c.in-Ok.ensures.crash (λ clean. still_known (state g.S.Store c.args.conn.now) (state g.S.Store c.find_known.new.conn) (c.in-Ok-Some.ensures.settled clean is refl) c.as_str-repo.result.now c.args.number c.as_str-digest.result.now c.in-Ok-Some.link (sym c.in-Ok-Some.field-0-is ∙ c.in-Ok-Some.ensures.found clean is)) clean stays.0));
+      rw (c.as_str-repo.ensures.text, c.as_str-digest.ensures.text) at (ends_done InTables g.S.Store c.args.conn.now c.finish_whole.new.conn c.as_str-repo.result.now c.args.number c.as_str-digest.result.now c.find_known.new.conn c.in-Ok-Some.link is stays (sym c.in-Ok-Some.field-0-is ∙ c.in-Ok-Some.ensures.found late is) (c.in-Ok.ensures.crash InTables (λ clean. still_known (state g.S.Store c.args.conn.now) (state g.S.Store c.find_known.new.conn) (c.in-Ok-Some.ensures.settled clean is refl) c.as_str-repo.result.now c.args.number c.as_str-digest.result.now c.in-Ok-Some.link (sym c.in-Ok-Some.field-0-is ∙ c.in-Ok-Some.ensures.found clean is)) clean stays.0));
   stays = λ clean is.
       let late : HasCleanDisk (state g.S.Store c.find_known.new.conn) = was_clean c.finish_whole.ensures.survives clean in
       let stays = c.in-Ok-Some.ensures.settled late is refl in
-      same_from (state g.S.Store c.args.conn.now) (state g.S.Store c.find_known.new.conn) stays (state g.S.Store c.finish_whole.new.conn) (c.in-Ok.ensures.stays clean stays.0);
+      same_from (state g.S.Store c.args.conn.now) (state g.S.Store c.find_known.new.conn) stays (state g.S.Store c.finish_whole.new.conn) (c.in-Ok.ensures.stays InTables clean stays.0);
   survives = survives_all (state g.S.Store c.args.conn.now) (state g.S.Store c.find_known.new.conn) (state g.S.Store c.finish_whole.new.conn) _ _ c.find_known.ensures.survives c.finish_whole.ensures.survives;
 }
 
@@ -66,19 +67,19 @@ returns-in-Err-finish_whole g c = record {
   memory = λ clean is memory.
       let late : HasCleanDisk (state g.S.Store c.find_known.new.conn) = was_clean c.finish_whole.ensures.survives clean in
       stays_then (state g.S.Store c.args.conn.now) (state g.S.Store c.find_known.new.conn) (state g.S.Store c.finish_whole.new.conn) (c.in-Ok-Some.ensures.settled late is refl)
-      (c.in-Err-finish_whole.ensures.memory clean (c.in-Ok-Some.ensures.settled late is refl).0 (let e = memory in cc));
+      (c.in-Err-finish_whole.ensures.memory InTables clean (c.in-Ok-Some.ensures.settled late is refl).0 (let e = memory in cc));
   back = λ clean is.
       let old = state g.S.Store c.args.conn.now in
       let mid = state g.S.Store c.find_known.new.conn in
       let late : HasCleanDisk mid = was_clean c.finish_whole.ensures.survives clean in
       let stays = c.in-Ok-Some.ensures.settled late is refl in
-      back_from old mid (state g.S.Store c.finish_whole.new.conn) is stays (c.in-Err-finish_whole.ensures.back clean stays.0);
+      back_from old mid (state g.S.Store c.finish_whole.new.conn) is stays (c.in-Err-finish_whole.ensures.back InTables clean stays.0);
   crash = λ clean is.
       let old = state g.S.Store c.args.conn.now in
       let mid = state g.S.Store c.find_known.new.conn in
       let late : HasCleanDisk mid = was_clean c.finish_whole.ensures.survives clean in
       let stays = c.in-Ok-Some.ensures.settled late is refl in
-      rw (c.as_str-repo.ensures.text, c.as_str-digest.ensures.text) at (ends_undone g.S.Store c.args.conn.now c.finish_whole.new.conn c.as_str-repo.result.now c.args.number c.as_str-digest.result.now c.find_known.new.conn c.in-Ok-Some.link is stays (sym c.in-Ok-Some.field-0-is ∙ c.in-Ok-Some.ensures.found late is) (c.in-Err-finish_whole.ensures.crash (λ clean. still_known (state g.S.Store c.args.conn.now) (state g.S.Store c.find_known.new.conn) (c.in-Ok-Some.ensures.settled clean is refl) c.as_str-repo.result.now c.args.number c.as_str-digest.result.now c.in-Ok-Some.link (sym c.in-Ok-Some.field-0-is ∙ c.in-Ok-Some.ensures.found clean is)) clean stays.0));
+      rw (c.as_str-repo.ensures.text, c.as_str-digest.ensures.text) at (ends_undone InTables g.S.Store c.args.conn.now c.finish_whole.new.conn c.as_str-repo.result.now c.args.number c.as_str-digest.result.now c.find_known.new.conn c.in-Ok-Some.link is stays (sym c.in-Ok-Some.field-0-is ∙ c.in-Ok-Some.ensures.found late is) (c.in-Err-finish_whole.ensures.crash InTables (λ clean. still_known (state g.S.Store c.args.conn.now) (state g.S.Store c.find_known.new.conn) (c.in-Ok-Some.ensures.settled clean is refl) c.as_str-repo.result.now c.args.number c.as_str-digest.result.now c.in-Ok-Some.link (sym c.in-Ok-Some.field-0-is ∙ c.in-Ok-Some.ensures.found clean is)) clean stays.0));
   stays = λ clean is. tt;
   survives = survives_all (state g.S.Store c.args.conn.now) (state g.S.Store c.find_known.new.conn) (state g.S.Store c.finish_whole.new.conn) _ _ c.find_known.ensures.survives c.finish_whole.ensures.survives;
 }
@@ -91,7 +92,7 @@ returns-in-Ok-None g c = record {
   ended = λ clean is. tt;
   memory = λ clean is memory. absurd (never_done memory);
   back = λ clean is. tt;
-  crash = λ clean is. ends_kept g.S.Store c.args.conn.now c.find_known.new.conn c.args.repo.now c.args.number c.args.digest.now is (c.find_known.ensures.kept clean is);
+  crash = λ clean is. ends_kept InTables g.S.Store c.args.conn.now c.find_known.new.conn c.args.repo.now c.args.number c.args.digest.now is (c.find_known.ensures.kept clean is);
   stays = λ clean is. same_read (state g.S.Store c.args.conn.now) (state g.S.Store c.find_known.new.conn) (c.in-Ok-None.ensures.settled clean is refl);
   survives = c.find_known.ensures.survives;
 }
@@ -103,7 +104,7 @@ returns-in-Err g c = record {
   ended = λ clean is. tt;
   memory = λ clean is memory. c.in-Err.ensures.settled clean is (memory_told (Option BlobLink) c.in-Err.fault memory);
   back = λ clean is. (c.find_known.ensures.kept clean is).back;
-  crash = λ clean is. ends_failed g.S.Store c.args.conn.now c.find_known.new.conn c.args.repo.now c.args.number c.args.digest.now is (c.find_known.ensures.kept clean is);
+  crash = λ clean is. ends_failed InTables g.S.Store c.args.conn.now c.find_known.new.conn c.args.repo.now c.args.number c.args.digest.now is (c.find_known.ensures.kept clean is);
   stays = λ clean is. tt;
   survives = c.find_known.ensures.survives;
 }

@@ -30,32 +30,32 @@ returns-in-Ok-Some g c =
     let mid = state g.S.Store c.find_blob_link.new.conn in
     let new = state g.S.Store c.make.new.conn in
     record {
-      made = λ known clean is.
+      made = λ l known clean is.
           let late : HasCleanDisk mid = was_clean c.make.ensures.survives clean in
           let early : HasCleanDisk old = was_clean c.find_blob_link.ensures.survives late in
-          let stays = c.in-Ok-Some.ensures.settled late is refl in
+          let stays = c.in-Ok-Some.ensures.settled l late is refl in
           came_so c.make.result false c.tell_came.result c.tell_came.ensures
-          (λ it. ends_there old mid new c.args.repo.now c.args.number c.args.digest.now c.args.link c.in-Ok-Some.field-0-0 is (known_is (held old) c.args.repo.now c.args.number (registry old is) c.args.digest.now c.args.link (known early)) stays (sym c.in-Ok-Some.field-0-is ∙ c.in-Ok-Some.ensures.found late is) (commits_as new _ it.0 it.1))
-          (c.make.ensures.made (λ early. tt) clean stays.0);
-      came = λ clean is.
+          (λ it. ends_there old mid new c.args.repo.now c.args.number c.args.digest.now c.args.link c.in-Ok-Some.field-0-0 is (known_is (held l old) c.args.repo.now c.args.number (registry old is) c.args.digest.now c.args.link (known early)) stays (sym c.in-Ok-Some.field-0-is ∙ c.in-Ok-Some.ensures.found l late is) (commits_as new _ it.0 it.1))
+          (c.make.ensures.made l tt (λ early. tt) clean stays.0);
+      came = λ l clean is.
           let late : HasCleanDisk mid = was_clean c.make.ensures.survives clean in
-          came_told c.make.result false _ c.tell_came.result c.tell_came.ensures (is_there old c.args.repo.now c.args.digest.now c.in-Ok-Some.field-0-0 is (sym c.in-Ok-Some.field-0-is ∙ c.in-Ok-Some.ensures.found late is));
-      memory = λ clean is memory.
-          let stays = c.in-Ok-Some.ensures.settled (was_clean c.make.ensures.survives clean) is refl in
-          stays_then old mid new stays (c.make.ensures.memory (λ early. tt) clean stays.0 (came_memory c.make.result false c.tell_came.result c.tell_came.ensures memory));
-      back = λ clean is.
-          let stays = c.in-Ok-Some.ensures.settled (was_clean c.make.ensures.survives clean) is refl in
-          came_back _ c.make.result false c.tell_came.result c.tell_came.ensures (less_err c.make.result (back_from old mid new is stays) (c.make.ensures.back (λ early. tt) clean stays.0));
-      crash = λ known clean is.
+          came_told c.make.result false _ c.tell_came.result c.tell_came.ensures (is_there old c.args.repo.now c.args.digest.now c.in-Ok-Some.field-0-0 is (sym c.in-Ok-Some.field-0-is ∙ c.in-Ok-Some.ensures.found l late is));
+      memory = λ l clean is memory.
+          let stays = c.in-Ok-Some.ensures.settled l (was_clean c.make.ensures.survives clean) is refl in
+          stays_then old mid new stays (c.make.ensures.memory l tt (λ early. tt) clean stays.0 (came_memory c.make.result false c.tell_came.result c.tell_came.ensures memory));
+      back = λ l clean is.
+          let stays = c.in-Ok-Some.ensures.settled l (was_clean c.make.ensures.survives clean) is refl in
+          came_back _ c.make.result false c.tell_came.result c.tell_came.ensures (less_err c.make.result (back_from old mid new is stays) (c.make.ensures.back l tt (λ early. tt) clean stays.0));
+      crash = λ l known clean is.
           let late : HasCleanDisk mid = was_clean c.make.ensures.survives clean in
           let early : HasCleanDisk old = was_clean c.find_blob_link.ensures.survives late in
-          let stays = c.in-Ok-Some.ensures.settled late is refl in
+          let stays = c.in-Ok-Some.ensures.settled l late is refl in
           crash_made g.S.Store c.args.conn.now c.make.new.conn (λ w. finish_as_is w c.args.repo.now c.args.number c.args.digest.now) c.find_blob_link.new.conn (λ t u. u ≡ sessions_without (of_session c.args.repo.now c.args.number) t) is stays
-          (λ s it. ends_there old mid s c.args.repo.now c.args.number c.args.digest.now c.args.link c.in-Ok-Some.field-0-0 is (known_is (held old) c.args.repo.now c.args.number (registry old is) c.args.digest.now c.args.link (known early)) stays (sym c.in-Ok-Some.field-0-is ∙ c.in-Ok-Some.ensures.found late is) (commits_as s _ it.0 it.1)) c.make.result c.tell_came.result (λ X x. came_so c.make.result false c.tell_came.result c.tell_came.ensures (λ it. it) x)
-          (c.make.ensures.crash (λ early. tt) clean stays.0);
-      stays = λ clean is.
-          let stays = c.in-Ok-Some.ensures.settled (was_clean c.make.ensures.survives clean) is refl in
-          came_so c.make.result false c.tell_came.result c.tell_came.ensures (λ it. same_from old mid stays new (ap (λ (t : Tables). t.contents) it.1)) (c.make.ensures.made (λ early. tt) clean stays.0);
+          (λ s it. ends_there old mid s c.args.repo.now c.args.number c.args.digest.now c.args.link c.in-Ok-Some.field-0-0 is (known_is (held l old) c.args.repo.now c.args.number (registry old is) c.args.digest.now c.args.link (known early)) stays (sym c.in-Ok-Some.field-0-is ∙ c.in-Ok-Some.ensures.found l late is) (commits_as s _ it.0 it.1)) c.make.result c.tell_came.result (λ X x. came_so c.make.result false c.tell_came.result c.tell_came.ensures (λ it. it) x)
+          (c.make.ensures.crash l tt (λ early. tt) clean stays.0);
+      stays = λ l clean is.
+          let stays = c.in-Ok-Some.ensures.settled l (was_clean c.make.ensures.survives clean) is refl in
+          came_so c.make.result false c.tell_came.result c.tell_came.ensures (λ it. same_from old mid stays new (ap (λ (t : Tables). t.contents) it.1)) (c.make.ensures.made l tt (λ early. tt) clean stays.0);
       survives = survives_all old mid new _ _ c.find_blob_link.ensures.survives c.make.ensures.survives;
     }
 
@@ -65,44 +65,44 @@ returns-in-Ok-None g c =
     let mid = state g.S.Store c.find_blob_link.new.conn in
     let new = state g.S.Store c.make-in-Ok-None.new.conn in
     record {
-      made = λ known clean is.
+      made = λ l known clean is.
           let late : HasCleanDisk mid = was_clean c.make-in-Ok-None.ensures.survives clean in
           let early : HasCleanDisk old = was_clean c.find_blob_link.ensures.survives late in
-          let stays = c.in-Ok-None.ensures.settled late is refl in
-          let found = sym c.in-Ok-None.field-0-is ∙ c.in-Ok-None.ensures.found late is in
-          let none = none_found blob_link (find (has_key c.args.repo.now c.args.digest.now) (held old).blobs) found in
+          let stays = c.in-Ok-None.ensures.settled l late is refl in
+          let found = sym c.in-Ok-None.field-0-is ∙ c.in-Ok-None.ensures.found l late is in
+          let none = none_found blob_link (find (has_key c.args.repo.now c.args.digest.now) (held l old).blobs) found in
           came_so c.make-in-Ok-None.result true c.tell_came-in-Ok-None.result c.tell_came-in-Ok-None.ensures
-          (λ it. ends_new old mid new c.args.repo.now c.args.number c.args.digest.now c.args.link is (known_is (held old) c.args.repo.now c.args.number (registry old is) c.args.digest.now c.args.link (known early)) stays none it)
-          (c.make-in-Ok-None.ensures.made (λ early. still_none old mid c.args.repo.now c.args.digest.now stays found) clean stays.0);
-      came = λ clean is.
+          (λ it. ends_new old mid new c.args.repo.now c.args.number c.args.digest.now c.args.link is (known_is (held l old) c.args.repo.now c.args.number (registry old is) c.args.digest.now c.args.link (known early)) stays none it)
+          (c.make-in-Ok-None.ensures.made l tt (λ early. still_none old mid c.args.repo.now c.args.digest.now stays found) clean stays.0);
+      came = λ l clean is.
           let late : HasCleanDisk mid = was_clean c.make-in-Ok-None.ensures.survives clean in
-          let found = sym c.in-Ok-None.field-0-is ∙ c.in-Ok-None.ensures.found late is in
-          let none = none_found blob_link (find (has_key c.args.repo.now c.args.digest.now) (held old).blobs) found in
+          let found = sym c.in-Ok-None.field-0-is ∙ c.in-Ok-None.ensures.found l late is in
+          let none = none_found blob_link (find (has_key c.args.repo.now c.args.digest.now) (held l old).blobs) found in
           came_told c.make-in-Ok-None.result true _ c.tell_came-in-Ok-None.result c.tell_came-in-Ok-None.ensures (comes old c.args.repo.now c.args.digest.now is none);
-      memory = λ clean is memory.
+      memory = λ l clean is memory.
           let late : HasCleanDisk mid = was_clean c.make-in-Ok-None.ensures.survives clean in
-          let stays = c.in-Ok-None.ensures.settled late is refl in
-          stays_then old mid new stays (c.make-in-Ok-None.ensures.memory (λ early. still_none old mid c.args.repo.now c.args.digest.now stays (sym c.in-Ok-None.field-0-is ∙ c.in-Ok-None.ensures.found late is)) clean stays.0 (came_memory c.make-in-Ok-None.result true c.tell_came-in-Ok-None.result c.tell_came-in-Ok-None.ensures memory));
-      back = λ clean is.
+          let stays = c.in-Ok-None.ensures.settled l late is refl in
+          stays_then old mid new stays (c.make-in-Ok-None.ensures.memory l tt (λ early. still_none old mid c.args.repo.now c.args.digest.now stays (sym c.in-Ok-None.field-0-is ∙ c.in-Ok-None.ensures.found l late is)) clean stays.0 (came_memory c.make-in-Ok-None.result true c.tell_came-in-Ok-None.result c.tell_came-in-Ok-None.ensures memory));
+      back = λ l clean is.
           let late : HasCleanDisk mid = was_clean c.make-in-Ok-None.ensures.survives clean in
-          let stays = c.in-Ok-None.ensures.settled late is refl in
+          let stays = c.in-Ok-None.ensures.settled l late is refl in
           came_back _ c.make-in-Ok-None.result true c.tell_came-in-Ok-None.result c.tell_came-in-Ok-None.ensures
-          (less_err c.make-in-Ok-None.result (back_from old mid new is stays) (c.make-in-Ok-None.ensures.back (λ early. still_none old mid c.args.repo.now c.args.digest.now stays (sym c.in-Ok-None.field-0-is ∙ c.in-Ok-None.ensures.found late is)) clean stays.0));
-      crash = λ known clean is.
+          (less_err c.make-in-Ok-None.result (back_from old mid new is stays) (c.make-in-Ok-None.ensures.back l tt (λ early. still_none old mid c.args.repo.now c.args.digest.now stays (sym c.in-Ok-None.field-0-is ∙ c.in-Ok-None.ensures.found l late is)) clean stays.0));
+      crash = λ l known clean is.
           let late : HasCleanDisk mid = was_clean c.make-in-Ok-None.ensures.survives clean in
           let early : HasCleanDisk old = was_clean c.find_blob_link.ensures.survives late in
-          let stays = c.in-Ok-None.ensures.settled late is refl in
-          let found = sym c.in-Ok-None.field-0-is ∙ c.in-Ok-None.ensures.found late is in
-          let none = none_found blob_link (find (has_key c.args.repo.now c.args.digest.now) (held old).blobs) found in
+          let stays = c.in-Ok-None.ensures.settled l late is refl in
+          let found = sym c.in-Ok-None.field-0-is ∙ c.in-Ok-None.ensures.found l late is in
+          let none = none_found blob_link (find (has_key c.args.repo.now c.args.digest.now) (held l old).blobs) found in
           crash_made g.S.Store c.args.conn.now c.make-in-Ok-None.new.conn (λ w. finish_as_is w c.args.repo.now c.args.number c.args.digest.now) c.find_blob_link.new.conn (λ t u. WholeEnds t u c.args.repo.now c.args.number c.args.digest.now c.args.link) is stays
-          (λ s it. ends_new old mid s c.args.repo.now c.args.number c.args.digest.now c.args.link is (known_is (held old) c.args.repo.now c.args.number (registry old is) c.args.digest.now c.args.link (known early)) stays none it) c.make-in-Ok-None.result c.tell_came-in-Ok-None.result (λ X x. came_so c.make-in-Ok-None.result true c.tell_came-in-Ok-None.result c.tell_came-in-Ok-None.ensures (λ it. it) x)
-          (c.make-in-Ok-None.ensures.crash (λ early. still_none old mid c.args.repo.now c.args.digest.now stays found) clean stays.0);
-      stays = λ clean is.
+          (λ s it. ends_new old mid s c.args.repo.now c.args.number c.args.digest.now c.args.link is (known_is (held l old) c.args.repo.now c.args.number (registry old is) c.args.digest.now c.args.link (known early)) stays none it) c.make-in-Ok-None.result c.tell_came-in-Ok-None.result (λ X x. came_so c.make-in-Ok-None.result true c.tell_came-in-Ok-None.result c.tell_came-in-Ok-None.ensures (λ it. it) x)
+          (c.make-in-Ok-None.ensures.crash l tt (λ early. still_none old mid c.args.repo.now c.args.digest.now stays found) clean stays.0);
+      stays = λ l clean is.
           let late : HasCleanDisk mid = was_clean c.make-in-Ok-None.ensures.survives clean in
-          let stays = c.in-Ok-None.ensures.settled late is refl in
-          let found = sym c.in-Ok-None.field-0-is ∙ c.in-Ok-None.ensures.found late is in
+          let stays = c.in-Ok-None.ensures.settled l late is refl in
+          let found = sym c.in-Ok-None.field-0-is ∙ c.in-Ok-None.ensures.found l late is in
           came_so c.make-in-Ok-None.result true c.tell_came-in-Ok-None.result c.tell_came-in-Ok-None.ensures (λ it. same_from old mid stays new (ap (λ (t : Tables). t.contents) it.1.others))
-          (c.make-in-Ok-None.ensures.made (λ early. still_none old mid c.args.repo.now c.args.digest.now stays found) clean stays.0);
+          (c.make-in-Ok-None.ensures.made l tt (λ early. still_none old mid c.args.repo.now c.args.digest.now stays found) clean stays.0);
       survives = survives_all old mid new _ _ c.find_blob_link.ensures.survives c.make-in-Ok-None.ensures.survives;
     }
 
@@ -114,22 +114,22 @@ make-requires-in-Ok-None g c = record { fits = (c.requires.number_fits, not_abov
 
 pub returns-in-Ok-None-2 : goal.returns-in-Ok-None-2
 returns-in-Ok-None-2 g c = record {
-  made = λ known clean is. tt;
-  came = λ clean is. tt;
-  memory = λ clean is memory. absurd (never_storage memory);
-  back = λ clean is. (c.find_blob_link.ensures.kept clean is).back;
-  crash = λ known clean is. crash_failed g.S.Store c.args.conn.now c.find_blob_link.new.conn (λ w. finish_as_is w c.args.repo.now c.args.number c.args.digest.now) is (c.find_blob_link.ensures.kept clean is);
-  stays = λ clean is. tt;
+  made = λ l known clean is. tt;
+  came = λ l clean is. tt;
+  memory = λ l clean is memory. absurd (never_storage memory);
+  back = λ l clean is. (c.find_blob_link.ensures.kept l clean is).back;
+  crash = λ l known clean is. crash_failed g.S.Store c.args.conn.now c.find_blob_link.new.conn (λ w. finish_as_is w c.args.repo.now c.args.number c.args.digest.now) is (c.find_blob_link.ensures.kept l clean is);
+  stays = λ l clean is. tt;
   survives = c.find_blob_link.ensures.survives;
 }
 
 pub returns-in-Err : goal.returns-in-Err
 returns-in-Err g c = record {
-  made = λ known clean is. tt;
-  came = λ clean is. tt;
-  memory = λ clean is memory. c.in-Err.ensures.settled clean is (memory_told (Option BlobLink) c.in-Err.fault memory);
-  back = λ clean is. (c.find_blob_link.ensures.kept clean is).back;
-  crash = λ known clean is. crash_failed g.S.Store c.args.conn.now c.find_blob_link.new.conn (λ w. finish_as_is w c.args.repo.now c.args.number c.args.digest.now) is (c.find_blob_link.ensures.kept clean is);
-  stays = λ clean is. tt;
+  made = λ l known clean is. tt;
+  came = λ l clean is. tt;
+  memory = λ l clean is memory. c.in-Err.ensures.settled l clean is (memory_told (Option BlobLink) c.in-Err.fault memory);
+  back = λ l clean is. (c.find_blob_link.ensures.kept l clean is).back;
+  crash = λ l known clean is. crash_failed g.S.Store c.args.conn.now c.find_blob_link.new.conn (λ w. finish_as_is w c.args.repo.now c.args.number c.args.digest.now) is (c.find_blob_link.ensures.kept l clean is);
+  stays = λ l clean is. tt;
   survives = c.find_blob_link.ensures.survives;
 }

@@ -4,6 +4,7 @@ use Rattle.sqlite.specs.State.{HasCleanDisk}
 use Rattle.sqlite.specs.Held.{state}
 use Rattle.registry_model.specs.Ask.{text_in}
 use Rattle.registry_model.specs.Lookups.{put_manifest}
+use Rattle.store_places.specs.Source as source
 use Rattle.store_statements.specs.Keys.{has_key}
 use Rattle.store_statements.specs.Held.{held, world_in}
 use Rattle.store_statements.specs.declared.manifests.ManifestLink.{ManifestLink}
@@ -28,34 +29,34 @@ returns-in-Ok-Some g c =
     let mid = state g.S.Store c.find_manifest_link.new.conn in
     let new = state g.S.Store c.make.new.conn in
     record {
-      made = λ there clean is.
+      made = λ l suits reads there clean is.
           let late : HasCleanDisk mid = was_clean c.make.ensures.survives clean in
-          let stays = c.in-Ok-Some.ensures.settled late is refl in
-          let some = found_some manifest_link c.in-Ok-Some.field-0-0 (find (has_key c.args.repo.now c.args.digest.now) (held old).manifests) (sym c.in-Ok-Some.field-0-is ∙ (rw (c.as_str-repo.ensures.text, c.as_str-digest.ensures.text) at (c.in-Ok-Some.ensures.found late is))) in
+          let stays = c.in-Ok-Some.ensures.settled l late is refl in
+          let some = found_some manifest_link c.in-Ok-Some.field-0-0 (find (has_key c.args.repo.now c.args.digest.now) (held l old).manifests) (sym c.in-Ok-Some.field-0-is ∙ (rw (c.as_str-repo.ensures.text, c.as_str-digest.ensures.text) at (c.in-Ok-Some.ensures.found l late is))) in
           less c.make.result
-          (λ it. made_there old mid new c.args.repo.now c.args.digest.now c.args.bytes.now (text_in c.args.tag) stays.1 some (stands new (tagged (world_in mid) c.args.repo.now (text_in c.args.tag) c.args.digest.now) it.0 (rw (c.as_str-repo.ensures.text, c.as_str-digest.ensures.text) at it.1.0)))
-          (c.make.ensures.made (λ clean. (stays.0.agree, rw c.as_str-repo.ensures.text (repo_there old mid c.args.repo.now stays.1 (there (was_clean c.find_manifest_link.ensures.survives late))))) clean stays.0);
-      memory = λ there clean is memory.
+          (λ it. made_there old mid new c.args.repo.now c.args.digest.now (source.text_in l c.args.source) (text_in c.args.tag) stays.1 some (stands new (tagged (world_in l mid) c.args.repo.now (text_in c.args.tag) c.args.digest.now) it.0 (rw (c.as_str-repo.ensures.text, c.as_str-digest.ensures.text) at it.1.0)))
+          (c.make.ensures.made l tt (λ clean. (stays.0.agree, rw c.as_str-repo.ensures.text (repo_there l old mid c.args.repo.now stays.1 (there (was_clean c.find_manifest_link.ensures.survives late))))) clean stays.0);
+      memory = λ l suits reads there clean is memory.
           let late : HasCleanDisk mid = was_clean c.make.ensures.survives clean in
-          let stays = c.in-Ok-Some.ensures.settled late is refl in
+          let stays = c.in-Ok-Some.ensures.settled l late is refl in
           stays_then old mid new stays
-          (c.make.ensures.memory (λ clean. (stays.0.agree, rw c.as_str-repo.ensures.text (repo_there old mid c.args.repo.now stays.1 (there (was_clean c.find_manifest_link.ensures.survives late))))) clean stays.0 memory);
-      back = λ there clean is.
+          (c.make.ensures.memory l tt (λ clean. (stays.0.agree, rw c.as_str-repo.ensures.text (repo_there l old mid c.args.repo.now stays.1 (there (was_clean c.find_manifest_link.ensures.survives late))))) clean stays.0 memory);
+      back = λ l suits reads there clean is.
           let late : HasCleanDisk mid = was_clean c.make.ensures.survives clean in
-          let stays = c.in-Ok-Some.ensures.settled late is refl in
-          less_err c.make.result (back_from old mid new is stays) (c.make.ensures.back (λ clean. (stays.0.agree, rw c.as_str-repo.ensures.text (repo_there old mid c.args.repo.now stays.1 (there (was_clean c.find_manifest_link.ensures.survives late))))) clean stays.0);
-      crash = λ there clean is.
+          let stays = c.in-Ok-Some.ensures.settled l late is refl in
+          less_err c.make.result (back_from old mid new is stays) (c.make.ensures.back l tt (λ clean. (stays.0.agree, rw c.as_str-repo.ensures.text (repo_there l old mid c.args.repo.now stays.1 (there (was_clean c.find_manifest_link.ensures.survives late))))) clean stays.0);
+      crash = λ l suits reads there clean is.
           let late : HasCleanDisk mid = was_clean c.make.ensures.survives clean in
-          let stays = c.in-Ok-Some.ensures.settled late is refl in
-          let some = found_some manifest_link c.in-Ok-Some.field-0-0 (find (has_key c.args.repo.now c.args.digest.now) (held old).manifests) (sym c.in-Ok-Some.field-0-is ∙ (rw (c.as_str-repo.ensures.text, c.as_str-digest.ensures.text) at (c.in-Ok-Some.ensures.found late is))) in
-          crash_made g.S.Store c.args.conn.now c.make.new.conn (λ w. Lookups.put_manifest w c.args.repo.now c.args.digest.now c.args.bytes.now (text_in c.args.tag)) c.find_manifest_link.new.conn (λ t u. StandsFor u (tagged (world_of t) c.as_str-repo.result.now (text_in c.args.tag) c.as_str-digest.result.now) × (u.beside ≡ t.beside) × Grow t.contents u.contents) is stays
-          (λ s it. made_there old mid s c.args.repo.now c.args.digest.now c.args.bytes.now (text_in c.args.tag) stays.1 some (stands s (tagged (world_in mid) c.args.repo.now (text_in c.args.tag) c.args.digest.now) it.0 (rw (c.as_str-repo.ensures.text, c.as_str-digest.ensures.text) at it.1.0))) c.make.result c.make.result (λ X x. x)
-          (c.make.ensures.crash (λ clean. (stays.0.agree, rw c.as_str-repo.ensures.text (repo_there old mid c.args.repo.now stays.1 (there (was_clean c.find_manifest_link.ensures.survives late))))) clean stays.0);
-      grows = λ there clean is.
+          let stays = c.in-Ok-Some.ensures.settled l late is refl in
+          let some = found_some manifest_link c.in-Ok-Some.field-0-0 (find (has_key c.args.repo.now c.args.digest.now) (held l old).manifests) (sym c.in-Ok-Some.field-0-is ∙ (rw (c.as_str-repo.ensures.text, c.as_str-digest.ensures.text) at (c.in-Ok-Some.ensures.found l late is))) in
+          crash_made g.S.Store c.args.conn.now c.make.new.conn (λ w. Lookups.put_manifest w c.args.repo.now c.args.digest.now (source.text_in l c.args.source) (text_in c.args.tag)) c.find_manifest_link.new.conn (λ t u. StandsFor u (tagged (world_of t) c.as_str-repo.result.now (text_in c.args.tag) c.as_str-digest.result.now) × (u.beside ≡ t.beside) × Grow t.contents u.contents) is stays
+          (λ s it. made_there old mid s c.args.repo.now c.args.digest.now (source.text_in l c.args.source) (text_in c.args.tag) stays.1 some (stands s (tagged (world_in l mid) c.args.repo.now (text_in c.args.tag) c.args.digest.now) it.0 (rw (c.as_str-repo.ensures.text, c.as_str-digest.ensures.text) at it.1.0))) c.make.result c.make.result (λ X x. x)
+          (c.make.ensures.crash l tt (λ clean. (stays.0.agree, rw c.as_str-repo.ensures.text (repo_there l old mid c.args.repo.now stays.1 (there (was_clean c.find_manifest_link.ensures.survives late))))) clean stays.0);
+      grows = λ l suits reads there clean is.
           let late : HasCleanDisk mid = was_clean c.make.ensures.survives clean in
-          let stays = c.in-Ok-Some.ensures.settled late is refl in
+          let stays = c.in-Ok-Some.ensures.settled l late is refl in
           less c.make.result (λ it. grow_from old mid stays new it.1.2)
-          (c.make.ensures.made (λ clean. (stays.0.agree, rw c.as_str-repo.ensures.text (repo_there old mid c.args.repo.now stays.1 (there (was_clean c.find_manifest_link.ensures.survives late))))) clean stays.0);
+          (c.make.ensures.made l tt (λ clean. (stays.0.agree, rw c.as_str-repo.ensures.text (repo_there l old mid c.args.repo.now stays.1 (there (was_clean c.find_manifest_link.ensures.survives late))))) clean stays.0);
       survives = survives_all old mid new (λ _. ⊤) (λ _. ⊤) c.find_manifest_link.ensures.survives c.make.ensures.survives;
     }
 
@@ -65,47 +66,47 @@ returns-in-Ok-None g c =
     let mid = state g.S.Store c.find_manifest_link.new.conn in
     let new = state g.S.Store c.make-in-Ok-None.new.conn in
     record {
-      made = λ there clean is.
+      made = λ l suits reads there clean is.
           let late : HasCleanDisk mid = was_clean c.make-in-Ok-None.ensures.survives clean in
-          let stays = c.in-Ok-None.ensures.settled late is refl in
-          let none = found_none manifest_link (find (has_key c.as_str-repo.result.now c.as_str-digest.result.now) (held old).manifests) (sym c.in-Ok-None.field-0-is ∙ c.in-Ok-None.ensures.found late is) in
+          let stays = c.in-Ok-None.ensures.settled l late is refl in
+          let none = found_none manifest_link (find (has_key c.as_str-repo.result.now c.as_str-digest.result.now) (held l old).manifests) (sym c.in-Ok-None.field-0-is ∙ c.in-Ok-None.ensures.found l late is) in
           less c.make-in-Ok-None.result
-          (λ it. made_new old mid new c.args.repo.now c.args.digest.now c.args.bytes.now (text_in c.args.tag) stays.1 (stands new (put_manifest (world_in mid) c.args.repo.now c.args.digest.now c.args.bytes.now (text_in c.args.tag)) it.0 (rw (c.as_str-repo.ensures.text, c.as_str-digest.ensures.text) at it.1.0)))
-          (c.make-in-Ok-None.ensures.made (λ clean. (stays.0.agree, rw c.as_str-repo.ensures.text (repo_there old mid c.args.repo.now stays.1 (there (was_clean c.find_manifest_link.ensures.survives late))), fresh_still old mid c.as_str-repo.result.now c.as_str-digest.result.now stays.1 none)) clean stays.0);
-      memory = λ there clean is memory.
+          (λ it. made_new old mid new c.args.repo.now c.args.digest.now (source.text_in l c.args.source) (text_in c.args.tag) stays.1 (stands new (put_manifest (world_in l mid) c.args.repo.now c.args.digest.now (source.text_in l c.args.source) (text_in c.args.tag)) it.0 (rw (c.as_str-repo.ensures.text, c.as_str-digest.ensures.text) at it.1.0)))
+          (c.make-in-Ok-None.ensures.made l (suits, reads) (λ clean. (stays.0.agree, rw c.as_str-repo.ensures.text (repo_there l old mid c.args.repo.now stays.1 (there (was_clean c.find_manifest_link.ensures.survives late))), fresh_still l old mid c.as_str-repo.result.now c.as_str-digest.result.now stays.1 none)) clean stays.0);
+      memory = λ l suits reads there clean is memory.
           let late : HasCleanDisk mid = was_clean c.make-in-Ok-None.ensures.survives clean in
-          let stays = c.in-Ok-None.ensures.settled late is refl in
-          let none = found_none manifest_link (find (has_key c.as_str-repo.result.now c.as_str-digest.result.now) (held old).manifests) (sym c.in-Ok-None.field-0-is ∙ c.in-Ok-None.ensures.found late is) in
+          let stays = c.in-Ok-None.ensures.settled l late is refl in
+          let none = found_none manifest_link (find (has_key c.as_str-repo.result.now c.as_str-digest.result.now) (held l old).manifests) (sym c.in-Ok-None.field-0-is ∙ c.in-Ok-None.ensures.found l late is) in
           stays_then old mid new stays
-          (c.make-in-Ok-None.ensures.memory (λ clean. (stays.0.agree, rw c.as_str-repo.ensures.text (repo_there old mid c.args.repo.now stays.1 (there (was_clean c.find_manifest_link.ensures.survives late))), fresh_still old mid c.as_str-repo.result.now c.as_str-digest.result.now stays.1 none)) clean stays.0 memory);
-      back = λ there clean is.
+          (c.make-in-Ok-None.ensures.memory l (suits, reads) (λ clean. (stays.0.agree, rw c.as_str-repo.ensures.text (repo_there l old mid c.args.repo.now stays.1 (there (was_clean c.find_manifest_link.ensures.survives late))), fresh_still l old mid c.as_str-repo.result.now c.as_str-digest.result.now stays.1 none)) clean stays.0 memory);
+      back = λ l suits reads there clean is.
           let late : HasCleanDisk mid = was_clean c.make-in-Ok-None.ensures.survives clean in
-          let stays = c.in-Ok-None.ensures.settled late is refl in
-          let none = found_none manifest_link (find (has_key c.as_str-repo.result.now c.as_str-digest.result.now) (held old).manifests) (sym c.in-Ok-None.field-0-is ∙ c.in-Ok-None.ensures.found late is) in
-          less_err c.make-in-Ok-None.result (back_from old mid new is stays) (c.make-in-Ok-None.ensures.back (λ clean. (stays.0.agree, rw c.as_str-repo.ensures.text (repo_there old mid c.args.repo.now stays.1 (there (was_clean c.find_manifest_link.ensures.survives late))), fresh_still old mid c.as_str-repo.result.now c.as_str-digest.result.now stays.1 none)) clean stays.0);
-      crash = λ there clean is.
+          let stays = c.in-Ok-None.ensures.settled l late is refl in
+          let none = found_none manifest_link (find (has_key c.as_str-repo.result.now c.as_str-digest.result.now) (held l old).manifests) (sym c.in-Ok-None.field-0-is ∙ c.in-Ok-None.ensures.found l late is) in
+          less_err c.make-in-Ok-None.result (back_from old mid new is stays) (c.make-in-Ok-None.ensures.back l (suits, reads) (λ clean. (stays.0.agree, rw c.as_str-repo.ensures.text (repo_there l old mid c.args.repo.now stays.1 (there (was_clean c.find_manifest_link.ensures.survives late))), fresh_still l old mid c.as_str-repo.result.now c.as_str-digest.result.now stays.1 none)) clean stays.0);
+      crash = λ l suits reads there clean is.
           let late : HasCleanDisk mid = was_clean c.make-in-Ok-None.ensures.survives clean in
-          let stays = c.in-Ok-None.ensures.settled late is refl in
-          let none = found_none manifest_link (find (has_key c.as_str-repo.result.now c.as_str-digest.result.now) (held old).manifests) (sym c.in-Ok-None.field-0-is ∙ c.in-Ok-None.ensures.found late is) in
-          crash_made g.S.Store c.args.conn.now c.make-in-Ok-None.new.conn (λ w. Lookups.put_manifest w c.args.repo.now c.args.digest.now c.args.bytes.now (text_in c.args.tag)) c.find_manifest_link.new.conn (λ t u. StandsFor u (Lookups.put_manifest (world_of t) c.as_str-repo.result.now c.as_str-digest.result.now c.args.bytes.now (text_in c.args.tag)) × (u.beside ≡ t.beside) × Grow t.contents u.contents) is stays
-          (λ s it. made_new old mid s c.args.repo.now c.args.digest.now c.args.bytes.now (text_in c.args.tag) stays.1 (stands s (put_manifest (world_in mid) c.args.repo.now c.args.digest.now c.args.bytes.now (text_in c.args.tag)) it.0 (rw (c.as_str-repo.ensures.text, c.as_str-digest.ensures.text) at it.1.0))) c.make-in-Ok-None.result c.make-in-Ok-None.result (λ X x. x)
-          (c.make-in-Ok-None.ensures.crash (λ clean. (stays.0.agree, rw c.as_str-repo.ensures.text (repo_there old mid c.args.repo.now stays.1 (there (was_clean c.find_manifest_link.ensures.survives late))), fresh_still old mid c.as_str-repo.result.now c.as_str-digest.result.now stays.1 none)) clean stays.0);
-      grows = λ there clean is.
+          let stays = c.in-Ok-None.ensures.settled l late is refl in
+          let none = found_none manifest_link (find (has_key c.as_str-repo.result.now c.as_str-digest.result.now) (held l old).manifests) (sym c.in-Ok-None.field-0-is ∙ c.in-Ok-None.ensures.found l late is) in
+          crash_made g.S.Store c.args.conn.now c.make-in-Ok-None.new.conn (λ w. Lookups.put_manifest w c.args.repo.now c.args.digest.now (source.text_in l c.args.source) (text_in c.args.tag)) c.find_manifest_link.new.conn (λ t u. StandsFor u (Lookups.put_manifest (world_of t) c.as_str-repo.result.now c.as_str-digest.result.now (source.text_in l c.args.source) (text_in c.args.tag)) × (u.beside ≡ t.beside) × Grow t.contents u.contents) is stays
+          (λ s it. made_new old mid s c.args.repo.now c.args.digest.now (source.text_in l c.args.source) (text_in c.args.tag) stays.1 (stands s (put_manifest (world_in l mid) c.args.repo.now c.args.digest.now (source.text_in l c.args.source) (text_in c.args.tag)) it.0 (rw (c.as_str-repo.ensures.text, c.as_str-digest.ensures.text) at it.1.0))) c.make-in-Ok-None.result c.make-in-Ok-None.result (λ X x. x)
+          (c.make-in-Ok-None.ensures.crash l (suits, reads) (λ clean. (stays.0.agree, rw c.as_str-repo.ensures.text (repo_there l old mid c.args.repo.now stays.1 (there (was_clean c.find_manifest_link.ensures.survives late))), fresh_still l old mid c.as_str-repo.result.now c.as_str-digest.result.now stays.1 none)) clean stays.0);
+      grows = λ l suits reads there clean is.
           let late : HasCleanDisk mid = was_clean c.make-in-Ok-None.ensures.survives clean in
-          let stays = c.in-Ok-None.ensures.settled late is refl in
-          let none = found_none manifest_link (find (has_key c.as_str-repo.result.now c.as_str-digest.result.now) (held old).manifests) (sym c.in-Ok-None.field-0-is ∙ c.in-Ok-None.ensures.found late is) in
+          let stays = c.in-Ok-None.ensures.settled l late is refl in
+          let none = found_none manifest_link (find (has_key c.as_str-repo.result.now c.as_str-digest.result.now) (held l old).manifests) (sym c.in-Ok-None.field-0-is ∙ c.in-Ok-None.ensures.found l late is) in
           less c.make-in-Ok-None.result (λ it. grow_from old mid stays new it.1.2)
-          (c.make-in-Ok-None.ensures.made (λ clean. (stays.0.agree, rw c.as_str-repo.ensures.text (repo_there old mid c.args.repo.now stays.1 (there (was_clean c.find_manifest_link.ensures.survives late))), fresh_still old mid c.as_str-repo.result.now c.as_str-digest.result.now stays.1 none)) clean stays.0);
+          (c.make-in-Ok-None.ensures.made l (suits, reads) (λ clean. (stays.0.agree, rw c.as_str-repo.ensures.text (repo_there l old mid c.args.repo.now stays.1 (there (was_clean c.find_manifest_link.ensures.survives late))), fresh_still l old mid c.as_str-repo.result.now c.as_str-digest.result.now stays.1 none)) clean stays.0);
       survives = survives_all old mid new (λ _. ⊤) (λ _. ⊤) c.find_manifest_link.ensures.survives c.make-in-Ok-None.ensures.survives;
     }
 
 pub returns-in-Err : goal.returns-in-Err
 returns-in-Err g c = record {
-  made = λ there clean is. tt;
-  memory = λ there clean is memory. c.in-Err.ensures.settled clean is (memory_unspent ⊤ (Option ManifestLink) c.in-Err.fault _ refl memory);
-  back = λ there clean is. (c.find_manifest_link.ensures.kept clean is).back;
-  crash = λ there clean is. crash_failed g.S.Store c.args.conn.now c.find_manifest_link.new.conn (λ w. Lookups.put_manifest w c.args.repo.now c.args.digest.now c.args.bytes.now (text_in c.args.tag)) is (c.find_manifest_link.ensures.kept clean is);
-  grows = λ there clean is. tt;
+  made = λ l suits reads there clean is. tt;
+  memory = λ l suits reads there clean is memory. c.in-Err.ensures.settled l clean is (memory_unspent ⊤ (Option ManifestLink) c.in-Err.fault _ refl memory);
+  back = λ l suits reads there clean is. (c.find_manifest_link.ensures.kept l clean is).back;
+  crash = λ l suits reads there clean is. crash_failed g.S.Store c.args.conn.now c.find_manifest_link.new.conn (λ w. Lookups.put_manifest w c.args.repo.now c.args.digest.now (source.text_in l c.args.source) (text_in c.args.tag)) is (c.find_manifest_link.ensures.kept l clean is);
+  grows = λ l suits reads there clean is. tt;
   survives = c.find_manifest_link.ensures.survives;
 }
 
@@ -113,4 +114,4 @@ pub make-requires : goal.make-requires
 make-requires g c = record { fits = tt }
 
 pub make-requires-in-Ok-None : goal.make-requires-in-Ok-None
-make-requires-in-Ok-None g c = record { fits = (rw c.as_str-digest.ensures.text c.requires.matching, c.requires.reads, c.requires.fits) }
+make-requires-in-Ok-None g c = record { fits = (c.requires.right, c.requires.fits, rw c.as_str-digest.ensures.text c.requires.matching) }

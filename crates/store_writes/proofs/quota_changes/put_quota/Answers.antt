@@ -18,11 +18,11 @@ returns-then-count-eq0 g c =
     let new = state g.S.Store c.add_repo.new.tx.conn.now in
     let early : HasCleanDisk new → HasCleanDisk mid = was_clean c.add_repo.ensures.survives in
     record {
-      put = λ clean is.
-          let none = none_counted (of_first c.args.name.now) (held old).repos (sym (c.in_ok-count.ensures.counted (early clean) is) ∙ c.if-count-eq0.true) in
-          let became = c.in_ok-count.ensures.set (early clean) is in
-          then_ok c.add_repo.result (λ came. (came.ready, repo_came old mid new c.args.name.now c.args.quota none became came)) (c.add_repo.ensures.added clean became.0 (fresh_repo old mid c.args.name.now c.args.quota none became));
-      kept = λ clean is. commit_then old mid new (c.set_quota.ensures.kept (early clean) is) (c.add_repo.ensures.kept clean (c.in_ok-count.ensures.set (early clean) is).0);
+      put = λ l clean is.
+          let none = none_counted (of_first c.args.name.now) (held l old).repos (sym (c.in_ok-count.ensures.counted l (early clean) is) ∙ c.if-count-eq0.true) in
+          let became = c.in_ok-count.ensures.set l (early clean) is in
+          then_ok c.add_repo.result (λ came. (came.ready, repo_came old mid new c.args.name.now c.args.quota none became came)) (c.add_repo.ensures.added l clean became.0 (fresh_repo old mid c.args.name.now c.args.quota none became));
+      kept = λ l clean is. commit_then old mid new (c.set_quota.ensures.kept l (early clean) is) (c.add_repo.ensures.kept l clean (c.in_ok-count.ensures.set l (early clean) is).0);
       same_reference = c.add_repo.ensures.same_reference ∙ c.set_quota.ensures.same_reference;
       survives = survives_both old mid new c.set_quota.ensures.survives c.add_repo.ensures.survives;
     }
@@ -32,18 +32,18 @@ returns-else-count-eq0 g c =
     let old = state g.S.Store c.args.tx.now.conn.now in
     let mid = state g.S.Store c.set_quota.new.tx.conn.now in
     record {
-      put = λ clean is.
-          let some : length (filter (of_first c.args.name.now) (held old).repos) ≢ 0 = λ e. c.if-count-eq0.false (c.in_ok-count.ensures.counted clean is ∙ e) in
-          let became = c.in_ok-count.ensures.set clean is in (became.0, quota_was_set old mid c.args.name.now c.args.quota (some_counted (of_first c.args.name.now) _ some) became);
-      kept = λ clean is. c.set_quota.ensures.kept clean is;
+      put = λ l clean is.
+          let some : length (filter (of_first c.args.name.now) (held l old).repos) ≢ 0 = λ e. c.if-count-eq0.false (c.in_ok-count.ensures.counted l clean is ∙ e) in
+          let became = c.in_ok-count.ensures.set l clean is in (became.0, quota_was_set old mid c.args.name.now c.args.quota (some_counted (of_first c.args.name.now) _ some) became);
+      kept = λ l clean is. c.set_quota.ensures.kept l clean is;
       same_reference = c.set_quota.ensures.same_reference;
       survives = c.set_quota.ensures.survives;
     }
 
 pub returns-in_err-count : goal.returns-in_err-count
 returns-in_err-count g c = record {
-  put = λ clean is. IfOk-from_err c.from_residual.result _ c.from_residual.ensures.0;
-  kept = λ clean is. c.set_quota.ensures.kept clean is;
+  put = λ l clean is. IfOk-from_err c.from_residual.result _ c.from_residual.ensures.0;
+  kept = λ l clean is. c.set_quota.ensures.kept l clean is;
   same_reference = c.set_quota.ensures.same_reference;
   survives = c.set_quota.ensures.survives;
 }

@@ -9,12 +9,12 @@ use Rattle.store_writes.proofs.quota_changes.set_repo.Goals as goal
 
 pub returns : goal.returns
 returns g c = record {
-  made = made_step g.S.Store c.args.conn.now c.make.new.conn c.make.result (λ w. set_repo w c.args.name.now c.args.quota.bytes) (λ t u. QuotaIsPut t u c.args.name.now c.args.quota.bytes) (rw c.as_str.ensures.text at (c.make.ensures.made (λ clean. tt)))
+  made = λ l. made_step g.S.Store c.args.conn.now c.make.new.conn c.make.result (λ w. set_repo w c.args.name.now c.args.quota.bytes) (λ t u. QuotaIsPut t u c.args.name.now c.args.quota.bytes) (rw c.as_str.ensures.text at (c.make.ensures.made l tt (λ clean. tt)))
       (λ t u is it. quota_put t u c.args.name.now c.args.quota.bytes is it);
-  memory = c.make.ensures.memory (λ clean. tt);
-  back = c.make.ensures.back (λ clean. tt);
-  crash = crash_step g.S.Store c.args.conn.now c.make.new.conn c.make.result (λ w. set_repo w c.args.name.now c.args.quota.bytes) (λ t u. QuotaIsPut t u c.args.name.now c.args.quota.bytes) (rw c.as_str.ensures.text at (c.make.ensures.crash (λ clean. tt)))
+  memory = λ l. c.make.ensures.memory l tt (λ clean. tt);
+  back = λ l. c.make.ensures.back l tt (λ clean. tt);
+  crash = λ l. crash_step g.S.Store c.args.conn.now c.make.new.conn c.make.result (λ w. set_repo w c.args.name.now c.args.quota.bytes) (λ t u. QuotaIsPut t u c.args.name.now c.args.quota.bytes) (rw c.as_str.ensures.text at (c.make.ensures.crash l tt (λ clean. tt)))
       (λ t u is it. quota_put t u c.args.name.now c.args.quota.bytes is it);
-  stays = λ clean is. less c.make.result (λ it. ap (λ (t : Tables). t.contents) it.1.others) (c.make.ensures.made (λ early. tt) clean is);
+  stays = λ l clean is. less c.make.result (λ it. ap (λ (t : Tables). t.contents) it.1.others) (c.make.ensures.made l tt (λ early. tt) clean is);
   survives = c.make.ensures.survives;
 }

@@ -9,11 +9,11 @@ use Rattle.store_writes.proofs.repo_removal.drop_repo.Goals as goal
 
 pub returns : goal.returns
 returns g c = record {
-  made = made_tables g.S.Store c.args.conn.now c.make.new.conn c.make.result (λ w. drop_repo w c.args.name.now) (dropped c.args.name.now) (λ clean is. rw c.as_str.ensures.text at (c.make.ensures.made (λ early. is.agree.beside) clean is)) (λ t is. repo_dropped t c.args.name.now is);
-  stays = λ clean is. less c.make.result (λ it. ap (λ (t : Tables). t.contents) it.1) (c.make.ensures.made (λ early. is.agree.beside) clean is);
-  memory = λ clean is. c.make.ensures.memory (λ early. is.agree.beside) clean is;
-  back = λ clean is. c.make.ensures.back (λ early. is.agree.beside) clean is;
-  crash = crash_tables g.S.Store c.args.conn.now c.make.new.conn c.make.result (λ w. drop_repo w c.args.name.now) (dropped c.args.name.now) (λ clean is. rw c.as_str.ensures.text at (c.make.ensures.crash (λ early. is.agree.beside) clean is)) (λ t is. repo_dropped t c.args.name.now is);
+  made = λ l. made_tables g.S.Store c.args.conn.now c.make.new.conn c.make.result (λ w. drop_repo w c.args.name.now) (dropped c.args.name.now) (λ clean is. rw c.as_str.ensures.text at (c.make.ensures.made l tt (λ early. is.agree.beside) clean is)) (λ t is. repo_dropped t c.args.name.now is);
+  stays = λ l clean is. less c.make.result (λ it. ap (λ (t : Tables). t.contents) it.1) (c.make.ensures.made l tt (λ early. is.agree.beside) clean is);
+  memory = λ l clean is. c.make.ensures.memory l tt (λ early. is.agree.beside) clean is;
+  back = λ l clean is. c.make.ensures.back l tt (λ early. is.agree.beside) clean is;
+  crash = λ l. crash_tables g.S.Store c.args.conn.now c.make.new.conn c.make.result (λ w. drop_repo w c.args.name.now) (dropped c.args.name.now) (λ clean is. rw c.as_str.ensures.text at (c.make.ensures.crash l tt (λ early. is.agree.beside) clean is)) (λ t is. repo_dropped t c.args.name.now is);
   survives = c.make.ensures.survives;
 }
 

@@ -11,17 +11,17 @@ use Rattle.store_writes.proofs.session_changes.add_session.Goals as goal
 
 pub returns-in-Ok : goal.returns-in-Ok
 returns-in-Ok g c = record {
-  opened = λ clean is fresh.
+  opened = λ l clean is fresh.
       let mid = state g.S.Store c.set_last.new.tx.conn.now in
       let new = state g.S.Store c.add_upload.new.tx.conn.now in
       let early : HasCleanDisk mid = was_clean c.add_upload.ensures.survives clean in
-      let first = c.in-Ok.ensures.set early is in
-      opened_if _ mid new c.args.repo.now c.args.number c.add_upload.result first.1
-      (c.add_upload.ensures.added clean first.0 (ap (λ (t : Tables). find (of_session c.args.repo.now c.args.number) t.uploads) first.1 ∙ fresh));
-  kept = λ clean is.
+      let first = c.in-Ok.ensures.set l early is in
+      opened_if l _ mid new c.args.repo.now c.args.number c.add_upload.result first.1
+      (c.add_upload.ensures.added l clean first.0 (ap (λ (t : Tables). find (of_session c.args.repo.now c.args.number) t.uploads) first.1 ∙ fresh));
+  kept = λ l clean is.
       let mid = state g.S.Store c.set_last.new.tx.conn.now in
       let early : HasCleanDisk mid = was_clean c.add_upload.ensures.survives clean in
-      commit_then (state g.S.Store c.args.tx.now.conn.now) mid (state g.S.Store c.add_upload.new.tx.conn.now) (c.set_last.ensures.kept early is) (c.add_upload.ensures.kept clean (c.in-Ok.ensures.set early is).0);
+      commit_then (state g.S.Store c.args.tx.now.conn.now) mid (state g.S.Store c.add_upload.new.tx.conn.now) (c.set_last.ensures.kept l early is) (c.add_upload.ensures.kept l clean (c.in-Ok.ensures.set l early is).0);
   same_reference = c.add_upload.ensures.same_reference ∙ c.set_last.ensures.same_reference;
   survives = survives_both (state g.S.Store c.args.tx.now.conn.now) (state g.S.Store c.set_last.new.tx.conn.now) (state g.S.Store c.add_upload.new.tx.conn.now) c.set_last.ensures.survives c.add_upload.ensures.survives;
 }
@@ -34,7 +34,7 @@ add_upload-requires g c = record { fits = c.requires.fits }
 
 pub returns-in-Err : goal.returns-in-Err
 returns-in-Err g c = record {
-  opened = λ clean is fresh. tt;
+  opened = λ l clean is fresh. tt;
   kept = c.set_last.ensures.kept;
   same_reference = c.set_last.ensures.same_reference;
   survives = c.set_last.ensures.survives;

@@ -26,29 +26,29 @@ returns-in-Ok-make g c =
     let mid = state g.S.Store c.find_repo.new.conn in
     let new = state g.S.Store c.make.new.conn in
     record {
-      made = λ clean is.
+      made = λ l clean is.
           let late : HasCleanDisk mid = was_clean c.make.ensures.survives clean in
-          let stays = c.in-Ok-Some.ensures.settled late is refl in
-          let last : Some c.in-Ok-Some.row.last ≡ option_map (λ r. natural_at r 3) (find (of_first c.as_str-repo.result.now) (held old).repos) =
-          last_found (find (of_first c.as_str-repo.result.now) (held old).repos) c.in-Ok-Some.row (sym c.in-Ok-Some.field-0-is ∙ c.in-Ok-Some.ensures.found late is) in
-          subst (λ name. (c.in-Ok-Some.row.last + 1 ≡ Lookups.last_number_at (world_in old) name + 1) × SettlesOn new (Lookups.open_session (world_in old) name)) c.as_str-repo.ensures.text
-          (opens old mid new c.as_str-repo.result.now c.in-Ok-Some.row.last is stays last (c.in-Ok-make.ensures.made (λ early. number_behind old mid c.as_str-repo.result.now c.in-Ok-Some.row.last is stays last) clean stays.0));
-      memory = λ clean is memory. absurd (never_done memory);
-      back = λ clean is. tt;
-      crash = λ clean is.
+          let stays = c.in-Ok-Some.ensures.settled l late is refl in
+          let last : Some c.in-Ok-Some.row.last ≡ option_map (λ r. natural_at r 3) (find (of_first c.as_str-repo.result.now) (held l old).repos) =
+          last_found (find (of_first c.as_str-repo.result.now) (held l old).repos) c.in-Ok-Some.row (sym c.in-Ok-Some.field-0-is ∙ c.in-Ok-Some.ensures.found l late is) in
+          subst (λ name. (c.in-Ok-Some.row.last + 1 ≡ Lookups.last_number_at (world_in l old) name + 1) × SettlesOn l new (Lookups.open_session (world_in l old) name)) c.as_str-repo.ensures.text
+          (opens old mid new c.as_str-repo.result.now c.in-Ok-Some.row.last is stays last (c.in-Ok-make.ensures.made l tt (λ early. number_behind old mid c.as_str-repo.result.now c.in-Ok-Some.row.last is stays last) clean stays.0));
+      memory = λ l clean is memory. absurd (never_done memory);
+      back = λ l clean is. tt;
+      crash = λ l clean is.
           let late : HasCleanDisk mid = was_clean c.make.ensures.survives clean in
-          let stays = c.in-Ok-Some.ensures.settled late is refl in
-          let last : Some c.in-Ok-Some.row.last ≡ option_map (λ r. natural_at r 3) (find (of_first c.as_str-repo.result.now) (held old).repos) =
-          last_found (find (of_first c.as_str-repo.result.now) (held old).repos) c.in-Ok-Some.row (sym c.in-Ok-Some.field-0-is ∙ c.in-Ok-Some.ensures.found late is) in
+          let stays = c.in-Ok-Some.ensures.settled l late is refl in
+          let last : Some c.in-Ok-Some.row.last ≡ option_map (λ r. natural_at r 3) (find (of_first c.as_str-repo.result.now) (held l old).repos) =
+          last_found (find (of_first c.as_str-repo.result.now) (held l old).repos) c.in-Ok-Some.row (sym c.in-Ok-Some.field-0-is ∙ c.in-Ok-Some.ensures.found l late is) in
           crash_done g.S.Store c.args.conn.now c.make.new.conn (λ w. Lookups.open_session w c.args.repo.now) c.find_repo.new.conn (λ t u. SessionOpened t u c.as_str-repo.result.now (c.in-Ok-Some.row.last + 1)) is stays
-          (λ s it. subst (λ name. SettlesOn s (Lookups.open_session (world_in old) name)) c.as_str-repo.ensures.text (opens old mid s c.as_str-repo.result.now c.in-Ok-Some.row.last is stays last it).1)
-          (c.in-Ok-make.ensures.crash (λ early. number_behind old mid c.as_str-repo.result.now c.in-Ok-Some.row.last is stays last) clean stays.0);
-      stays = λ clean is.
+          (λ s it. subst (λ name. SettlesOn l s (Lookups.open_session (world_in l old) name)) c.as_str-repo.ensures.text (opens old mid s c.as_str-repo.result.now c.in-Ok-Some.row.last is stays last it).1)
+          (c.in-Ok-make.ensures.crash l tt (λ early. number_behind old mid c.as_str-repo.result.now c.in-Ok-Some.row.last is stays last) clean stays.0);
+      stays = λ l clean is.
           let late : HasCleanDisk mid = was_clean c.make.ensures.survives clean in
-          let stays = c.in-Ok-Some.ensures.settled late is refl in
-          let last : Some c.in-Ok-Some.row.last ≡ option_map (λ r. natural_at r 3) (find (of_first c.as_str-repo.result.now) (held old).repos) =
-          last_found (find (of_first c.as_str-repo.result.now) (held old).repos) c.in-Ok-Some.row (sym c.in-Ok-Some.field-0-is ∙ c.in-Ok-Some.ensures.found late is) in
-          same_from old mid stays new (ap (λ (t : Tables). t.contents) (c.in-Ok-make.ensures.made (λ early. number_behind old mid c.as_str-repo.result.now c.in-Ok-Some.row.last is stays last) clean stays.0).1.others);
+          let stays = c.in-Ok-Some.ensures.settled l late is refl in
+          let last : Some c.in-Ok-Some.row.last ≡ option_map (λ r. natural_at r 3) (find (of_first c.as_str-repo.result.now) (held l old).repos) =
+          last_found (find (of_first c.as_str-repo.result.now) (held l old).repos) c.in-Ok-Some.row (sym c.in-Ok-Some.field-0-is ∙ c.in-Ok-Some.ensures.found l late is) in
+          same_from old mid stays new (ap (λ (t : Tables). t.contents) (c.in-Ok-make.ensures.made l tt (λ early. number_behind old mid c.as_str-repo.result.now c.in-Ok-Some.row.last is stays last) clean stays.0).1.others);
       survives = survives_all old mid new _ _ c.find_repo.ensures.survives c.make.ensures.survives;
     }
 
@@ -58,28 +58,28 @@ returns-in-Err-make g c =
     let mid = state g.S.Store c.find_repo.new.conn in
     let new = state g.S.Store c.make.new.conn in
     record {
-      made = λ clean is. tt;
-      memory = λ clean is memory.
+      made = λ l clean is. tt;
+      memory = λ l clean is memory.
           let late : HasCleanDisk mid = was_clean c.make.ensures.survives clean in
-          let stays = c.in-Ok-Some.ensures.settled late is refl in
-          let last : Some c.in-Ok-Some.row.last ≡ option_map (λ r. natural_at r 3) (find (of_first c.as_str-repo.result.now) (held old).repos) =
-          last_found (find (of_first c.as_str-repo.result.now) (held old).repos) c.in-Ok-Some.row (sym c.in-Ok-Some.field-0-is ∙ c.in-Ok-Some.ensures.found late is) in
-          stays_then old mid new stays (c.in-Err-make.ensures.memory (λ early. number_behind old mid c.as_str-repo.result.now c.in-Ok-Some.row.last is stays last) clean stays.0 (let e = memory in cc));
-      back = λ clean is.
+          let stays = c.in-Ok-Some.ensures.settled l late is refl in
+          let last : Some c.in-Ok-Some.row.last ≡ option_map (λ r. natural_at r 3) (find (of_first c.as_str-repo.result.now) (held l old).repos) =
+          last_found (find (of_first c.as_str-repo.result.now) (held l old).repos) c.in-Ok-Some.row (sym c.in-Ok-Some.field-0-is ∙ c.in-Ok-Some.ensures.found l late is) in
+          stays_then old mid new stays (c.in-Err-make.ensures.memory l tt (λ early. number_behind old mid c.as_str-repo.result.now c.in-Ok-Some.row.last is stays last) clean stays.0 (let e = memory in cc));
+      back = λ l clean is.
           let late : HasCleanDisk mid = was_clean c.make.ensures.survives clean in
-          let stays = c.in-Ok-Some.ensures.settled late is refl in
-          let last : Some c.in-Ok-Some.row.last ≡ option_map (λ r. natural_at r 3) (find (of_first c.as_str-repo.result.now) (held old).repos) =
-          last_found (find (of_first c.as_str-repo.result.now) (held old).repos) c.in-Ok-Some.row (sym c.in-Ok-Some.field-0-is ∙ c.in-Ok-Some.ensures.found late is) in
-          back_from old mid new is stays (c.in-Err-make.ensures.back (λ early. number_behind old mid c.as_str-repo.result.now c.in-Ok-Some.row.last is stays last) clean stays.0);
-      crash = λ clean is.
+          let stays = c.in-Ok-Some.ensures.settled l late is refl in
+          let last : Some c.in-Ok-Some.row.last ≡ option_map (λ r. natural_at r 3) (find (of_first c.as_str-repo.result.now) (held l old).repos) =
+          last_found (find (of_first c.as_str-repo.result.now) (held l old).repos) c.in-Ok-Some.row (sym c.in-Ok-Some.field-0-is ∙ c.in-Ok-Some.ensures.found l late is) in
+          back_from old mid new is stays (c.in-Err-make.ensures.back l tt (λ early. number_behind old mid c.as_str-repo.result.now c.in-Ok-Some.row.last is stays last) clean stays.0);
+      crash = λ l clean is.
           let late : HasCleanDisk mid = was_clean c.make.ensures.survives clean in
-          let stays = c.in-Ok-Some.ensures.settled late is refl in
-          let last : Some c.in-Ok-Some.row.last ≡ option_map (λ r. natural_at r 3) (find (of_first c.as_str-repo.result.now) (held old).repos) =
-          last_found (find (of_first c.as_str-repo.result.now) (held old).repos) c.in-Ok-Some.row (sym c.in-Ok-Some.field-0-is ∙ c.in-Ok-Some.ensures.found late is) in
+          let stays = c.in-Ok-Some.ensures.settled l late is refl in
+          let last : Some c.in-Ok-Some.row.last ≡ option_map (λ r. natural_at r 3) (find (of_first c.as_str-repo.result.now) (held l old).repos) =
+          last_found (find (of_first c.as_str-repo.result.now) (held l old).repos) c.in-Ok-Some.row (sym c.in-Ok-Some.field-0-is ∙ c.in-Ok-Some.ensures.found l late is) in
           crash_undone g.S.Store c.args.conn.now c.make.new.conn (λ w. Lookups.open_session w c.args.repo.now) c.find_repo.new.conn (λ t u. SessionOpened t u c.as_str-repo.result.now (c.in-Ok-Some.row.last + 1)) is stays
-          (λ s it. subst (λ name. SettlesOn s (Lookups.open_session (world_in old) name)) c.as_str-repo.ensures.text (opens old mid s c.as_str-repo.result.now c.in-Ok-Some.row.last is stays last it).1)
-          (c.in-Err-make.ensures.crash (λ early. number_behind old mid c.as_str-repo.result.now c.in-Ok-Some.row.last is stays last) clean stays.0);
-      stays = λ clean is. tt;
+          (λ s it. subst (λ name. SettlesOn l s (Lookups.open_session (world_in l old) name)) c.as_str-repo.ensures.text (opens old mid s c.as_str-repo.result.now c.in-Ok-Some.row.last is stays last it).1)
+          (c.in-Err-make.ensures.crash l tt (λ early. number_behind old mid c.as_str-repo.result.now c.in-Ok-Some.row.last is stays last) clean stays.0);
+      stays = λ l clean is. tt;
       survives = survives_all old mid new _ _ c.find_repo.ensures.survives c.make.ensures.survives;
     }
 
@@ -94,30 +94,30 @@ make-requires g c = record { fits = next_fits c.in-Ok-Some.row.last c.if-row-lt-
 
 pub returns-in-Ok : goal.returns-in-Ok
 returns-in-Ok g c = record {
-  made = λ clean is. tt;
-  memory = λ clean is memory. absurd (never_storage memory);
-  back = λ clean is. (c.find_repo.ensures.kept clean is).back;
-  crash = λ clean is. crash_failed g.S.Store c.args.conn.now c.find_repo.new.conn (λ w. Lookups.open_session w c.args.repo.now) is (c.find_repo.ensures.kept clean is);
-  stays = λ clean is. tt;
+  made = λ l clean is. tt;
+  memory = λ l clean is memory. absurd (never_storage memory);
+  back = λ l clean is. (c.find_repo.ensures.kept l clean is).back;
+  crash = λ l clean is. crash_failed g.S.Store c.args.conn.now c.find_repo.new.conn (λ w. Lookups.open_session w c.args.repo.now) is (c.find_repo.ensures.kept l clean is);
+  stays = λ l clean is. tt;
   survives = c.find_repo.ensures.survives;
 }
 
 pub returns-in-Ok-2 : goal.returns-in-Ok-2
 returns-in-Ok-2 g c = record {
-  made = λ clean is. tt;
-  memory = λ clean is memory. absurd (never_storage memory);
-  back = λ clean is. (c.find_repo.ensures.kept clean is).back;
-  crash = λ clean is. crash_failed g.S.Store c.args.conn.now c.find_repo.new.conn (λ w. Lookups.open_session w c.args.repo.now) is (c.find_repo.ensures.kept clean is);
-  stays = λ clean is. tt;
+  made = λ l clean is. tt;
+  memory = λ l clean is memory. absurd (never_storage memory);
+  back = λ l clean is. (c.find_repo.ensures.kept l clean is).back;
+  crash = λ l clean is. crash_failed g.S.Store c.args.conn.now c.find_repo.new.conn (λ w. Lookups.open_session w c.args.repo.now) is (c.find_repo.ensures.kept l clean is);
+  stays = λ l clean is. tt;
   survives = c.find_repo.ensures.survives;
 }
 
 pub returns-in-Err : goal.returns-in-Err
 returns-in-Err g c = record {
-  made = λ clean is. tt;
-  memory = λ clean is memory. c.in-Err.ensures.settled clean is (memory_told (Option RepoRow) c.in-Err.fault memory);
-  back = λ clean is. (c.find_repo.ensures.kept clean is).back;
-  crash = λ clean is. crash_failed g.S.Store c.args.conn.now c.find_repo.new.conn (λ w. Lookups.open_session w c.args.repo.now) is (c.find_repo.ensures.kept clean is);
-  stays = λ clean is. tt;
+  made = λ l clean is. tt;
+  memory = λ l clean is memory. c.in-Err.ensures.settled l clean is (memory_told (Option RepoRow) c.in-Err.fault memory);
+  back = λ l clean is. (c.find_repo.ensures.kept l clean is).back;
+  crash = λ l clean is. crash_failed g.S.Store c.args.conn.now c.find_repo.new.conn (λ w. Lookups.open_session w c.args.repo.now) is (c.find_repo.ensures.kept l clean is);
+  stays = λ l clean is. tt;
   survives = c.find_repo.ensures.survives;
 }

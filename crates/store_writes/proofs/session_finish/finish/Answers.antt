@@ -1,7 +1,8 @@
-use Rattle.std.proofs.Common.{◌∙◌, length, refl, sym, ◌≡◌, ap}
+use Rattle.std.proofs.Common.{◌∙◌, refl, sym, ◌≡◌, ap}
 use Rattle.std.specs.Prelude.{find, Option}
 use Rattle.sqlite.specs.State.{HasCleanDisk}
 use Rattle.sqlite.specs.Held.{state}
+use Rattle.store_places.specs.Source as source
 use Rattle.store_statements.specs.Keys.{has_key, of_session}
 use Rattle.store_statements.specs.declared.blobs.BlobLink.{BlobLink}
 use Rattle.store_statements.specs.Shown.{blob_link}
@@ -15,7 +16,7 @@ use Rattle.store_statements.proofs.Checks.{never_storage}
 use Rattle.store_statements.proofs.Checks.{survives_here}
 use Rattle.store_statements.proofs.SettledAfter.{stays_then}
 use Rattle.store_statements.proofs.Alone.{commits_as, less, less_err}
-use Rattle.store_writes.proofs.Fitting.{not_above, blob_fits}
+use Rattle.store_writes.proofs.Fitting.{not_above}
 use Rattle.store_statements.proofs.Crashes.{back_from, kept_stayed, crash_failed, crash_made}
 use Rattle.registry_model.specs.Lookups as Lookups
 use Rattle.store_statements.specs.Steps.{Finished, sessions_without}
@@ -25,22 +26,22 @@ use Rattle.store_writes.proofs.session_finish.finish.Goals as goal
 
 pub returns-in-Err : goal.returns-in-Err
 returns-in-Err g c = record {
-  made = λ is_open clean is. tt;
-  memory = λ clean is memory. c.in-Err.ensures.settled clean is (memory_told (Option BlobLink) c.in-Err.fault memory);
-  back = λ clean is. (c.find_blob_link.ensures.kept clean is).back;
-  crash = λ is_open clean is. crash_failed g.S.Store c.args.conn.now c.find_blob_link.new.conn (λ w. Lookups.finish w c.args.repo.now c.args.number c.args.digest.now c.args.bytes.now) is (c.find_blob_link.ensures.kept clean is);
-  grows = λ clean is. tt;
+  made = λ l suits is_open clean is. tt;
+  memory = λ l suits clean is memory. c.in-Err.ensures.settled l clean is (memory_told (Option BlobLink) c.in-Err.fault memory);
+  back = λ l suits clean is. (c.find_blob_link.ensures.kept l clean is).back;
+  crash = λ l suits is_open clean is. crash_failed g.S.Store c.args.conn.now c.find_blob_link.new.conn (λ w. Lookups.finish w c.args.repo.now c.args.number c.args.digest.now (source.text_in l c.args.source)) is (c.find_blob_link.ensures.kept l clean is);
+  grows = λ l suits clean is. tt;
   survives = c.find_blob_link.ensures.survives;
 }
 
 pub returns-then-number-gt-LARGEST : goal.returns-then-number-gt-LARGEST
 returns-then-number-gt-LARGEST g c = record {
-  made = λ is_open clean is. tt;
-  memory = λ clean is memory. absurd (never_storage memory);
-  back = λ clean is is_open. (refl, refl);
-  crash = λ is_open clean is.
-      crash_failed g.S.Store c.args.conn.now c.args.conn.now (λ w. Lookups.finish w c.args.repo.now c.args.number c.args.digest.now c.args.bytes.now) is (kept_stayed g.S.Store g.met.S.Store.settled c.args.conn.now c.args.conn.now is (is, refl));
-  grows = λ clean is. tt;
+  made = λ l suits is_open clean is. tt;
+  memory = λ l suits clean is memory. absurd (never_storage memory);
+  back = λ l suits clean is is_open. (refl, refl);
+  crash = λ l suits is_open clean is.
+      crash_failed g.S.Store c.args.conn.now c.args.conn.now (λ w. Lookups.finish w c.args.repo.now c.args.number c.args.digest.now (source.text_in l c.args.source)) is (kept_stayed g.S.Store g.met.S.Store.settled c.args.conn.now c.args.conn.now is (is, refl));
+  grows = λ l suits clean is. tt;
   survives = survives_here (state g.S.Store c.args.conn.now);
 }
 
@@ -48,7 +49,7 @@ pub make-requires : goal.make-requires
 make-requires g c = record { fits = not_above c.args.number c.if-number-gt-LARGEST.false }
 
 pub make-requires-in-Ok-None : goal.make-requires-in-Ok-None
-make-requires-in-Ok-None g c = record { fits = (not_above c.args.number c.if-number-gt-LARGEST.false, rw c.as_str-digest.ensures.text c.requires.matching, blob_fits (length c.args.bytes.now) c.requires.fits) }
+make-requires-in-Ok-None g c = record { fits = (not_above c.args.number c.if-number-gt-LARGEST.false, c.requires.right, c.requires.fits, rw c.as_str-digest.ensures.text c.requires.matching) }
 
 pub returns-in-Ok-Some : goal.returns-in-Ok-Some
 returns-in-Ok-Some g c =
@@ -56,28 +57,28 @@ returns-in-Ok-Some g c =
     let mid = state g.S.Store c.find_blob_link.new.conn in
     let new = state g.S.Store c.make.new.conn in
     record {
-      made = λ is_open clean is.
+      made = λ l suits is_open clean is.
           let late : HasCleanDisk mid = was_clean c.make.ensures.survives clean in
-          let stays = c.in-Ok-Some.ensures.settled late is refl in
+          let stays = c.in-Ok-Some.ensures.settled l late is refl in
           less c.make.result
-          (λ it. rw (c.as_str-repo.ensures.text, c.as_str-digest.ensures.text) at (finishes_there old mid new c.as_str-repo.result.now c.args.number c.as_str-digest.result.now c.args.bytes.now c.in-Ok-Some.field-0-0 is stays (sym c.in-Ok-Some.field-0-is ∙ c.in-Ok-Some.ensures.found late is) (commits_as new _ it.0 it.1)))
-          (c.make.ensures.made (λ early. tt) clean stays.0);
-      memory = λ clean is memory.
-          let stays = c.in-Ok-Some.ensures.settled (was_clean c.make.ensures.survives clean) is refl in
-          stays_then old mid new stays (c.make.ensures.memory (λ early. tt) clean stays.0 memory);
-      back = λ clean is.
-          let stays = c.in-Ok-Some.ensures.settled (was_clean c.make.ensures.survives clean) is refl in
-          less_err c.make.result (back_from old mid new is stays) (c.make.ensures.back (λ early. tt) clean stays.0);
-      crash = λ is_open clean is.
+          (λ it. rw (c.as_str-repo.ensures.text, c.as_str-digest.ensures.text) at (finishes_there old mid new c.as_str-repo.result.now c.args.number c.as_str-digest.result.now (source.text_in l c.args.source) c.in-Ok-Some.field-0-0 is stays (sym c.in-Ok-Some.field-0-is ∙ c.in-Ok-Some.ensures.found l late is) (commits_as new _ it.0 it.1)))
+          (c.make.ensures.made l tt (λ early. tt) clean stays.0);
+      memory = λ l suits clean is memory.
+          let stays = c.in-Ok-Some.ensures.settled l (was_clean c.make.ensures.survives clean) is refl in
+          stays_then old mid new stays (c.make.ensures.memory l tt (λ early. tt) clean stays.0 memory);
+      back = λ l suits clean is.
+          let stays = c.in-Ok-Some.ensures.settled l (was_clean c.make.ensures.survives clean) is refl in
+          less_err c.make.result (back_from old mid new is stays) (c.make.ensures.back l tt (λ early. tt) clean stays.0);
+      crash = λ l suits is_open clean is.
           let late : HasCleanDisk mid = was_clean c.make.ensures.survives clean in
-          let stays = c.in-Ok-Some.ensures.settled late is refl in
-          crash_made g.S.Store c.args.conn.now c.make.new.conn (λ w. Lookups.finish w c.args.repo.now c.args.number c.args.digest.now c.args.bytes.now) c.find_blob_link.new.conn (λ t u. u ≡ sessions_without (of_session c.as_str-repo.result.now c.args.number) t) is stays
-          (λ s it. rw (c.as_str-repo.ensures.text, c.as_str-digest.ensures.text) at (finishes_there old mid s c.as_str-repo.result.now c.args.number c.as_str-digest.result.now c.args.bytes.now c.in-Ok-Some.field-0-0 is stays (sym c.in-Ok-Some.field-0-is ∙ c.in-Ok-Some.ensures.found late is) (commits_as s _ it.0 it.1))) c.make.result c.make.result (λ X x. x)
-          (c.make.ensures.crash (λ early. tt) clean stays.0);
-      grows = λ clean is.
-          let stays = c.in-Ok-Some.ensures.settled (was_clean c.make.ensures.survives clean) is refl in
-          less c.make.result (λ it. grow_from old mid stays new (grow_same (held mid) (held new) (ap (λ (t : Tables). t.contents) it.1)))
-          (c.make.ensures.made (λ early. tt) clean stays.0);
+          let stays = c.in-Ok-Some.ensures.settled l late is refl in
+          crash_made g.S.Store c.args.conn.now c.make.new.conn (λ w. Lookups.finish w c.args.repo.now c.args.number c.args.digest.now (source.text_in l c.args.source)) c.find_blob_link.new.conn (λ t u. u ≡ sessions_without (of_session c.as_str-repo.result.now c.args.number) t) is stays
+          (λ s it. rw (c.as_str-repo.ensures.text, c.as_str-digest.ensures.text) at (finishes_there old mid s c.as_str-repo.result.now c.args.number c.as_str-digest.result.now (source.text_in l c.args.source) c.in-Ok-Some.field-0-0 is stays (sym c.in-Ok-Some.field-0-is ∙ c.in-Ok-Some.ensures.found l late is) (commits_as s _ it.0 it.1))) c.make.result c.make.result (λ X x. x)
+          (c.make.ensures.crash l tt (λ early. tt) clean stays.0);
+      grows = λ l suits clean is.
+          let stays = c.in-Ok-Some.ensures.settled l (was_clean c.make.ensures.survives clean) is refl in
+          less c.make.result (λ it. grow_from old mid stays new (grow_same (held l mid) (held l new) (ap (λ (t : Tables). t.contents) it.1)))
+          (c.make.ensures.made l tt (λ early. tt) clean stays.0);
       survives = survives_all old mid new _ _ c.find_blob_link.ensures.survives c.make.ensures.survives;
     }
 
@@ -87,35 +88,35 @@ returns-in-Ok-None g c =
     let mid = state g.S.Store c.find_blob_link.new.conn in
     let new = state g.S.Store c.make-in-Ok-None.new.conn in
     record {
-      made = λ is_open clean is.
+      made = λ l suits is_open clean is.
           let late : HasCleanDisk mid = was_clean c.make-in-Ok-None.ensures.survives clean in
-          let stays = c.in-Ok-None.ensures.settled late is refl in
-          let found = sym c.in-Ok-None.field-0-is ∙ c.in-Ok-None.ensures.found late is in
-          let none = none_found blob_link (find (has_key c.as_str-repo.result.now c.as_str-digest.result.now) (held old).blobs) found in
+          let stays = c.in-Ok-None.ensures.settled l late is refl in
+          let found = sym c.in-Ok-None.field-0-is ∙ c.in-Ok-None.ensures.found l late is in
+          let none = none_found blob_link (find (has_key c.as_str-repo.result.now c.as_str-digest.result.now) (held l old).blobs) found in
           less c.make-in-Ok-None.result
-          (λ it. finishes_new old mid new c.args.repo.now c.args.number c.args.digest.now c.args.bytes.now is (is_open (was_clean c.find_blob_link.ensures.survives late)) stays (rw (c.as_str-repo.ensures.text, c.as_str-digest.ensures.text) at none) (rw (c.as_str-repo.ensures.text, c.as_str-digest.ensures.text) at it))
-          (c.make-in-Ok-None.ensures.made (λ early. still_none old mid c.as_str-repo.result.now c.as_str-digest.result.now stays found) clean stays.0);
-      memory = λ clean is memory.
+          (λ it. finishes_new old mid new c.args.repo.now c.args.number c.args.digest.now (source.text_in l c.args.source) is (is_open (was_clean c.find_blob_link.ensures.survives late)) stays (rw (c.as_str-repo.ensures.text, c.as_str-digest.ensures.text) at none) (rw (c.as_str-repo.ensures.text, c.as_str-digest.ensures.text) at it))
+          (c.make-in-Ok-None.ensures.made l suits (λ early. still_none old mid c.as_str-repo.result.now c.as_str-digest.result.now stays found) clean stays.0);
+      memory = λ l suits clean is memory.
           let late : HasCleanDisk mid = was_clean c.make-in-Ok-None.ensures.survives clean in
-          let stays = c.in-Ok-None.ensures.settled late is refl in
-          stays_then old mid new stays (c.make-in-Ok-None.ensures.memory (λ early. still_none old mid c.as_str-repo.result.now c.as_str-digest.result.now stays (sym c.in-Ok-None.field-0-is ∙ c.in-Ok-None.ensures.found late is)) clean stays.0 memory);
-      back = λ clean is.
+          let stays = c.in-Ok-None.ensures.settled l late is refl in
+          stays_then old mid new stays (c.make-in-Ok-None.ensures.memory l suits (λ early. still_none old mid c.as_str-repo.result.now c.as_str-digest.result.now stays (sym c.in-Ok-None.field-0-is ∙ c.in-Ok-None.ensures.found l late is)) clean stays.0 memory);
+      back = λ l suits clean is.
           let late : HasCleanDisk mid = was_clean c.make-in-Ok-None.ensures.survives clean in
-          let stays = c.in-Ok-None.ensures.settled late is refl in
-          less_err c.make-in-Ok-None.result (back_from old mid new is stays) (c.make-in-Ok-None.ensures.back (λ early. still_none old mid c.as_str-repo.result.now c.as_str-digest.result.now stays (sym c.in-Ok-None.field-0-is ∙ c.in-Ok-None.ensures.found late is)) clean stays.0);
-      crash = λ is_open clean is.
+          let stays = c.in-Ok-None.ensures.settled l late is refl in
+          less_err c.make-in-Ok-None.result (back_from old mid new is stays) (c.make-in-Ok-None.ensures.back l suits (λ early. still_none old mid c.as_str-repo.result.now c.as_str-digest.result.now stays (sym c.in-Ok-None.field-0-is ∙ c.in-Ok-None.ensures.found l late is)) clean stays.0);
+      crash = λ l suits is_open clean is.
           let late : HasCleanDisk mid = was_clean c.make-in-Ok-None.ensures.survives clean in
-          let stays = c.in-Ok-None.ensures.settled late is refl in
-          let found = sym c.in-Ok-None.field-0-is ∙ c.in-Ok-None.ensures.found late is in
-          let none = none_found blob_link (find (has_key c.as_str-repo.result.now c.as_str-digest.result.now) (held old).blobs) found in
-          crash_made g.S.Store c.args.conn.now c.make-in-Ok-None.new.conn (λ w. Lookups.finish w c.args.repo.now c.args.number c.args.digest.now c.args.bytes.now) c.find_blob_link.new.conn (λ t u. Finished t u c.as_str-repo.result.now c.args.number c.as_str-digest.result.now c.args.bytes.now) is stays
-          (λ s it. finishes_new old mid s c.args.repo.now c.args.number c.args.digest.now c.args.bytes.now is (is_open (was_clean c.find_blob_link.ensures.survives late)) stays (rw (c.as_str-repo.ensures.text, c.as_str-digest.ensures.text) at none) (rw (c.as_str-repo.ensures.text, c.as_str-digest.ensures.text) at it)) c.make-in-Ok-None.result c.make-in-Ok-None.result (λ X x. x)
-          (c.make-in-Ok-None.ensures.crash (λ early. still_none old mid c.as_str-repo.result.now c.as_str-digest.result.now stays found) clean stays.0);
-      grows = λ clean is.
+          let stays = c.in-Ok-None.ensures.settled l late is refl in
+          let found = sym c.in-Ok-None.field-0-is ∙ c.in-Ok-None.ensures.found l late is in
+          let none = none_found blob_link (find (has_key c.as_str-repo.result.now c.as_str-digest.result.now) (held l old).blobs) found in
+          crash_made g.S.Store c.args.conn.now c.make-in-Ok-None.new.conn (λ w. Lookups.finish w c.args.repo.now c.args.number c.args.digest.now (source.text_in l c.args.source)) c.find_blob_link.new.conn (λ t u. Finished t u c.as_str-repo.result.now c.args.number c.as_str-digest.result.now (source.text_in l c.args.source)) is stays
+          (λ s it. finishes_new old mid s c.args.repo.now c.args.number c.args.digest.now (source.text_in l c.args.source) is (is_open (was_clean c.find_blob_link.ensures.survives late)) stays (rw (c.as_str-repo.ensures.text, c.as_str-digest.ensures.text) at none) (rw (c.as_str-repo.ensures.text, c.as_str-digest.ensures.text) at it)) c.make-in-Ok-None.result c.make-in-Ok-None.result (λ X x. x)
+          (c.make-in-Ok-None.ensures.crash l suits (λ early. still_none old mid c.as_str-repo.result.now c.as_str-digest.result.now stays found) clean stays.0);
+      grows = λ l suits clean is.
           let late : HasCleanDisk mid = was_clean c.make-in-Ok-None.ensures.survives clean in
-          let stays = c.in-Ok-None.ensures.settled late is refl in
-          let found = sym c.in-Ok-None.field-0-is ∙ c.in-Ok-None.ensures.found late is in
+          let stays = c.in-Ok-None.ensures.settled l late is refl in
+          let found = sym c.in-Ok-None.field-0-is ∙ c.in-Ok-None.ensures.found l late is in
           less c.make-in-Ok-None.result (λ it. grow_from old mid stays new it.1.grow)
-          (c.make-in-Ok-None.ensures.made (λ early. still_none old mid c.as_str-repo.result.now c.as_str-digest.result.now stays found) clean stays.0);
+          (c.make-in-Ok-None.ensures.made l suits (λ early. still_none old mid c.as_str-repo.result.now c.as_str-digest.result.now stays found) clean stays.0);
       survives = survives_all old mid new _ _ c.find_blob_link.ensures.survives c.make-in-Ok-None.ensures.survives;
     }

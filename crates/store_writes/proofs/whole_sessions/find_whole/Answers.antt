@@ -22,23 +22,23 @@ returns-in-Ok-Some g c =
     let new = state g.S.Store c.pieces_in_order.new.conn in
     let early : HasCleanDisk new → HasCleanDisk mid = was_clean c.pieces_in_order.ensures.survives in
     record {
-      found = λ clean is.
-          let stays = c.in-Ok-Some.ensures.settled (early clean) is refl in
-          whole_found old mid stays c.args.repo.now c.args.number c.in-Ok-Some.size c.piece_link.result (sym c.in-Ok-Some.field-0-is ∙ c.in-Ok-Some.ensures.found (early clean) is)
-          (piece_made c.in-Ok-Some.size (map (content_named 5) (pieces_of (held mid).pieces c.args.repo.now c.args.number)) c.pieces_in_order.result c.piece_link.result c.piece_link.ensures (c.pieces_in_order.ensures.found clean stays.0));
-      settled = λ clean is unspent.
-          let stays = c.in-Ok-Some.ensures.settled (early clean) is refl in
-          stays_then old mid new stays (c.pieces_in_order.ensures.settled clean stays.0 (unspent_before (λ (ids : Vec ContentId Global). only_link c.in-Ok-Some.size ids.items) c.pieces_in_order.result c.piece_link.result c.piece_link.ensures unspent));
-      kept = λ clean is.
-          let stays = c.in-Ok-Some.ensures.settled (early clean) is refl in
-          kept_then old mid new is stays (c.pieces_in_order.ensures.kept clean stays.0);
+      found = λ l clean is.
+          let stays = c.in-Ok-Some.ensures.settled l (early clean) is refl in
+          whole_found old mid stays c.args.repo.now c.args.number c.in-Ok-Some.size c.piece_link.result (sym c.in-Ok-Some.field-0-is ∙ c.in-Ok-Some.ensures.found l (early clean) is)
+          (piece_made c.in-Ok-Some.size (map (content_named 5) (pieces_of (held l mid).pieces c.args.repo.now c.args.number)) c.pieces_in_order.result c.piece_link.result c.piece_link.ensures (c.pieces_in_order.ensures.found l clean stays.0));
+      settled = λ l clean is unspent.
+          let stays = c.in-Ok-Some.ensures.settled l (early clean) is refl in
+          stays_then old mid new stays (c.pieces_in_order.ensures.settled l clean stays.0 (unspent_before (λ (ids : Vec ContentId Global). only_link c.in-Ok-Some.size ids.items) c.pieces_in_order.result c.piece_link.result c.piece_link.ensures unspent));
+      kept = λ l clean is.
+          let stays = c.in-Ok-Some.ensures.settled l (early clean) is refl in
+          kept_then old mid new is stays (c.pieces_in_order.ensures.kept l clean stays.0);
       survives = survives_all old mid new _ _ c.find_upload.ensures.survives c.pieces_in_order.ensures.survives;
     }
 
 pub returns-in-Ok-None : goal.returns-in-Ok-None
 returns-in-Ok-None g c = record {
-  found = λ clean is. no_whole (held (state g.S.Store c.args.conn.now)) c.args.repo.now c.args.number (sym c.in-Ok-None.field-0-is ∙ c.in-Ok-None.ensures.found clean is);
-  settled = λ clean is unspent. c.in-Ok-None.ensures.settled clean is refl;
+  found = λ l clean is. no_whole (held l (state g.S.Store c.args.conn.now)) c.args.repo.now c.args.number (sym c.in-Ok-None.field-0-is ∙ c.in-Ok-None.ensures.found l clean is);
+  settled = λ l clean is unspent. c.in-Ok-None.ensures.settled l clean is refl;
   kept = c.find_upload.ensures.kept;
   survives = c.find_upload.ensures.survives;
 }
@@ -51,8 +51,8 @@ pieces_in_order-requires g c = record { fits = c.requires.fits }
 
 pub returns-in-Err : goal.returns-in-Err
 returns-in-Err g c = record {
-  found = λ clean is. tt;
-  settled = λ clean is unspent. c.in-Err.ensures.settled clean is unspent;
+  found = λ l clean is. tt;
+  settled = λ l clean is unspent. c.in-Err.ensures.settled l clean is unspent;
   kept = c.find_upload.ensures.kept;
   survives = c.find_upload.ensures.survives;
 }

@@ -1,3 +1,4 @@
+use Rattle.store_contents.specs.Layouts.{InTables}
 use Rattle.std.proofs.Common.{◌≡◌, true}
 use Rattle.registry_model.specs.Command.{grant}
 use Rattle.registry_model.specs.World.{has_repo}
@@ -8,7 +9,7 @@ use Rattle.registry_store.proofs.keeper.StoreKeeper.grant.Goals as goal
 pub invariant_of-self : goal.invariant_of-self
 invariant_of-self g c =
     untouched_holds g.S.Store g.O.Origin.is_ours c.self.inside.conn c.args.self.now c.self.inside.spent c.self.view_is c.self.inside.known c.self.invariant c.if-self.false c.grant-answer.new.conn c.grant-answer.ensures.survives
-    c.note_fault.result c.grant-answer.result c.note_fault.new.spent c.note_fault.ensures.same c.note_fault.ensures.noted (λ w. grant w c.args.token.now c.args.name.now c.args.level) (λ ours. c.grant-answer.ensures.made (asked g.S.Store c.self.inside.conn c.args.self.now c.self.inside.spent c.self.view_is (λ w. has_repo w c.args.name.now ≡ true) g.O.Origin.is_ours c.if-self.false ours c.requires.there)) (λ ours. c.grant-answer.ensures.memory) (λ knows. knows)
+    c.note_fault.result c.grant-answer.result c.note_fault.new.spent c.note_fault.ensures.same c.note_fault.ensures.noted (λ w. grant w c.args.token.now c.args.name.now c.args.level) (λ ours. c.grant-answer.ensures.made InTables (asked g.S.Store c.self.inside.conn c.args.self.now c.self.inside.spent c.self.view_is (λ w. has_repo w c.args.name.now ≡ true) g.O.Origin.is_ours c.if-self.false ours c.requires.there)) (λ ours. c.grant-answer.ensures.memory InTables) (λ knows. knows)
 
 pub returns-then-self : goal.returns-then-self
 returns-then-self g c = nothing_once g.S.Store g.O.Origin.is_ours c.self.inside.conn c.args.self.now c.self.inside.spent c.self.view_is c.if-self.true
@@ -17,5 +18,5 @@ pub returns : goal.returns
 returns g c =
     writes_once g.S.Store g.O.Origin.is_ours c.self.inside.conn c.args.self.now c.self.inside.spent c.self.view_is c.self.inside.known c.self.invariant c.if-self.false c.grant-answer.new.conn c.grant-answer.ensures.survives
     c.note_fault.result c.grant-answer.result c.note_fault.new.spent c.note_fault.ensures.same c.note_fault.ensures.noted (λ w. grant w c.args.token.now c.args.name.now c.args.level)
-    (λ ours. c.grant-answer.ensures.made (asked g.S.Store c.self.inside.conn c.args.self.now c.self.inside.spent c.self.view_is (λ w. has_repo w c.args.name.now ≡ true) g.O.Origin.is_ours c.if-self.false ours c.requires.there)) (λ ours. c.grant-answer.ensures.memory)
-    (λ ours. c.grant-answer.ensures.crash (asked g.S.Store c.self.inside.conn c.args.self.now c.self.inside.spent c.self.view_is (λ w. has_repo w c.args.name.now ≡ true) g.O.Origin.is_ours c.if-self.false ours c.requires.there))
+    (λ ours. c.grant-answer.ensures.made InTables (asked g.S.Store c.self.inside.conn c.args.self.now c.self.inside.spent c.self.view_is (λ w. has_repo w c.args.name.now ≡ true) g.O.Origin.is_ours c.if-self.false ours c.requires.there)) (λ ours. c.grant-answer.ensures.memory InTables)
+    (λ ours. c.grant-answer.ensures.crash InTables (asked g.S.Store c.self.inside.conn c.args.self.now c.self.inside.spent c.self.view_is (λ w. has_repo w c.args.name.now ≡ true) g.O.Origin.is_ours c.if-self.false ours c.requires.there))

@@ -1,0 +1,9 @@
+pub mod CommitLemmas
+pub mod JointLemmas
+pub mod ReadLemmas
+pub mod ExtentRows
+pub mod ExtentLemmas
+pub mod PackLemmas
+pub mod KnownTables
+pub mod OpeningLemmas
+pub mod AgeLemmas

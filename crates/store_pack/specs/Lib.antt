@@ -1,0 +1,5 @@
+pub mod Commits
+pub mod Joint
+pub mod Reads
+pub mod Pack
+pub mod Opening

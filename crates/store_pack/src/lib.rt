@@ -1,0 +1,22 @@
+//! A connection together with its pack: a commit of rows that say where bytes stand, behind a sync of the
+//! pack.
+#![tactic(auto)]
+
+mod age;
+mod commit;
+mod deletion;
+mod opening;
+mod pack_row;
+mod piece;
+mod reading;
+mod staged;
+#[cfg(test)]
+mod tests;
+
+pub use age::raise_age;
+pub use deletion::delete_content;
+pub use opening::{PackFault, open_pack};
+pub use pack_row::{PackRow, put_pack_row, read_pack_row, set_age};
+pub use piece::write_piece;
+pub use reading::{extents_in_use, extents_of};
+pub use staged::put_staged;
