@@ -3,6 +3,7 @@ pub mod JointLemmas
 pub mod ReadLemmas
 pub mod ExtentRows
 pub mod ExtentLemmas
+pub mod ContentLemmas
 pub mod PackLemmas
 pub mod KnownTables
 pub mod OpeningLemmas

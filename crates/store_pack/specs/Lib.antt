@@ -3,3 +3,4 @@ pub mod Joint
 pub mod Reads
 pub mod Pack
 pub mod Opening
+pub mod Content

@@ -4,6 +4,7 @@
 
 mod age;
 mod commit;
+mod content;
 mod deletion;
 mod opening;
 mod pack_row;
@@ -14,6 +15,7 @@ mod staged;
 mod tests;
 
 pub use age::raise_age;
+pub use content::read_content;
 pub use deletion::delete_content;
 pub use opening::{PackFault, open_pack};
 pub use pack_row::{PackRow, put_pack_row, read_pack_row, set_age};

@@ -1,13 +1,15 @@
 //! Each function over a database in memory.
-ghost use Rattle.std.specs.Prelude.{◌≡◌, ◌<◌, ◌^◌, IsTrue};
+ghost use Rattle.std.specs.Prelude.{◌≡◌, ◌<◌, ◌^◌, IfOk, IsTrue};
 ghost use Rattle.std.specs.List.{AllByRecursion};
 ghost use Rattle.sqlite_disk.specs.Memory.{memory_is_usable};
 ghost use Rattle.registry_pack.specs.Extents.{size_of, starts_at, total_of};
+ghost use Rattle.registry_pack.specs.Pack.{file_of};
 
 use crate::{
-    PackRow, extents_in_use, extents_of, put_pack_row, put_staged, read_pack_row, set_age,
+    PackRow, extents_in_use, extents_of, put_pack_row, put_staged, read_content, read_pack_row,
+    set_age,
 };
-use registry_pack::{Extent, write};
+use registry_pack::{Extent, Pack, write};
 use sqlite::{Connection, MemStore};
 use sqlite_disk::{Crash, Memory};
 use std::alloc::Global;
@@ -158,6 +160,45 @@ fn a_stage_is_put_over_a_file(rt: HostRuntime) -> Result<(), Fail> {
     let there = find_extents(alloc, &mut conn, id)?.ok_or("it is not there")?;
     assert_eq!(rt; there.as_slice(), [extent(&rt, 8, 3)].as_slice());
     assert_eq!(rt; disk.bytes(), b"\0\0\0\0\0\0\0\0abc".as_slice());
+    Ok(())
+}
+
+/// A pack of 65,536 zeros and `abcd` at 12,288, and of `efg` at 8,192.
+fn made_pack(rt: &impl Abort, alloc: Global) -> Result<Pack<Memory>, Fail>
+    ensures { IfOk result (λ pack. IsTrue (memory_is_usable (file_of pack))) }
+{
+    let mut pack = Pack::create(alloc, Memory::new(alloc), [7; 16])?;
+    pack.write(extent(rt, 12_288, 65_540), 65_536, b"abcd")?;
+    pack.write(extent(rt, 8_192, 3), 0, b"efg")?;
+    Ok(pack)
+}
+
+fn find_bytes(
+    alloc: Global,
+    conn: &mut Connection<MemStore>,
+    pack: &mut Pack<Memory>,
+    id: ContentId,
+) -> Result<Option<Vec<u8>>, Fail>
+    requires { IsTrue (memory_is_usable (file_of pack.old)) }
+    ensures { IsTrue (memory_is_usable (file_of pack.new)) }
+{
+    let found = read_content(alloc, conn, pack, id)?;
+    Ok(found)
+}
+
+#[test]
+fn the_bytes_of_a_content_are_read(rt: HostRuntime) -> Result<(), Fail> {
+    let alloc = rt.alloc();
+    let mut conn = open_tables(alloc)?;
+    let mut pack = made_pack(&rt, alloc)?;
+    let extents = [extent(&rt, 12_288, 65_540), extent(&rt, 8_192, 3)];
+    let id = add(&rt, &mut conn, &extents)?;
+    let bytes = find_bytes(alloc, &mut conn, &mut pack, id)?.ok_or("it is not there")?;
+    let mut wanted = vec![in alloc; 0; 65_536]?;
+    wanted.extend_from_slice(b"abcdefg")?;
+    assert_eq!(rt; bytes.as_slice(), wanted.as_slice());
+    remove(&rt, &mut conn, id)?;
+    assert!(rt; find_bytes(alloc, &mut conn, &mut pack, id)?.is_none());
     Ok(())
 }
 
