@@ -6,6 +6,7 @@ use registry_tasks::Servers;
 use sqlite::FileFrom;
 use std::convert::AsStr;
 use std::io::{Read, Write};
+use store_bytes::TableContents;
 
 /// Does what the words say, over files of which `F` says what is supposed.
 pub fn run<F: Supposed, T: AsStr, R: Read, W: Write, E: Write>(
@@ -18,7 +19,17 @@ pub fn run<F: Supposed, T: AsStr, R: Read, W: Write, E: Write>(
     let mut databases = Databases::<F>::new(rt);
     let mut servers = Servers::new(rt);
     let watch = CheckProgress::new(rt);
-    run_in_files::<FileFrom<F>, Databases<'_, F>, Servers<'_>, CheckProgress<'_>, T, R, W, E>(
+    run_in_files::<
+        FileFrom<F>,
+        TableContents,
+        Databases<'_, F>,
+        Servers<'_>,
+        CheckProgress<'_>,
+        T,
+        R,
+        W,
+        E,
+    >(
         rt,
         &mut databases,
         &mut servers,

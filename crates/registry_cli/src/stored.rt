@@ -12,17 +12,18 @@ ghost use Rattle.registry_store.specs.Kept.{IsHonest, shown};
 use registry_checking::Watch;
 use registry_opening::Opener;
 use registry_program::run_words;
-use registry_store::Store;
+use registry_store::{Ours, Reclaim, Store};
 use registry_tasks::Messenger;
 use sqlite::{Alter, FileStore};
 use sqlite_disk::Disk;
 use std::convert::AsStr;
 use std::io::{Read, Write};
 
-/// `run_words` over the tables of databases.
+/// `run_words` over the tables of databases, with the bytes of contents where `C` keeps them.
 fn run_over<
     S: Alter,
-    O: Opener<Store<S>>,
+    C: Reclaim,
+    O: Opener<Store<S, Ours, C>>,
     M: Messenger,
     V: Watch,
     T: AsStr,
@@ -40,8 +41,8 @@ fn run_over<
     err: &mut E,
 ) -> u8
     ensures runs { RunsWords
-        (acts (between (IsHonest S.Store true) (shown S.Store) O.opens (O.had opener.old) (O.had opener.new))
-        (M.had messenger.old) (M.had messenger.new))
+        (acts (between (IsHonest S.Store C.Contents true) (shown S.Store C.Contents)
+        O.opens (O.had opener.old) (O.had opener.new)) (M.had messenger.old) (M.had messenger.new))
         (map T.text words.now) result
         (streams (R.remaining reader.old) (R.remaining reader.new)
         (W.contents out.old) (W.contents out.new))
@@ -59,7 +60,8 @@ fn run_over<
 /// input, output and error; gives the exit status, as `run_words` does.
 pub fn run_in_files<
     D: Disk,
-    O: Opener<Store<FileStore<D>>>,
+    C: Reclaim,
+    O: Opener<Store<FileStore<D>, Ours, C>>,
     M: Messenger,
     V: Watch,
     T: AsStr,
@@ -77,7 +79,8 @@ pub fn run_in_files<
     err: &mut E,
 ) -> u8
     ensures runs { RunsWords
-        (acts (between (IsHonest (over_files {g = D.Disk}) true) (shown (over_files {g = D.Disk}))
+        (acts (between (IsHonest (over_files {g = D.Disk}) C.Contents true)
+        (shown (over_files {g = D.Disk}) C.Contents)
         O.opens (O.had opener.old) (O.had opener.new)) (M.had messenger.old) (M.had messenger.new))
         (map T.text words.now) result
         (streams (R.remaining reader.old) (R.remaining reader.new)
@@ -89,7 +92,7 @@ pub fn run_in_files<
         (W.contents out.old) (W.contents out.new)) }
     ensures status { result ≤ 4 }
 {
-    run_over::<FileStore<D>, O, M, V, T, R, W, E>(
+    run_over::<FileStore<D>, C, O, M, V, T, R, W, E>(
         rt, opener, messenger, watch, words, reader, out, err,
     )
 }

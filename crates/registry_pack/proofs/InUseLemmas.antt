@@ -6,7 +6,7 @@ use Rattle.registry_pack.specs.Extents.{Covers}
 use Rattle.registry_pack.specs.Holes.{IsFree}
 use Rattle.registry_pack.specs.Blocks.{IsInBlocks, IsInUse, AreBefore, AreWhole}
 use Rattle.registry_pack.proofs.FreeLemmas.{free_left, free_right, free_split}
-use Rattle.registry_pack.proofs.BlockLemmas.{in_blocks, in_whole}
+use Rattle.registry_pack.proofs.BlockLemmas.{in_blocks}
 
 in_use_left : (xs ys : List Extent) (p : ℕ) → IsInUse xs p → IsInUse (xs ++ ys) p
 in_use_left [] ys p h = absurd h
@@ -76,4 +76,42 @@ module _ (end : ℕ) (last : end % 4096 ≡ 0) (used in_use gaps : List Extent) 
   gaps_are p = (
     λ f. (let x = (are p).0 f in (x.0, x.1, λ h. x.2 ((found p).1 (h, x.1)))),
     λ (low, high, n). (are p).1 (low, high, λ f. n ((found p).0 f).0),
+  )
+
+-- ---- what is neither in use nor free
+
+-- the blocks before the end that are in use, and what is free besides
+abbrev pub AreTaken : ℕ → List Extent → List Extent → List Extent → Type 0
+AreTaken end found used free = (p : ℕ) → IsFree found p ↔ ((IsInUse used p × (p < end)) ⊎ IsFree free p)
+
+pub AreTaken-both : (end : ℕ) (in_use taken used free : List Extent) → AreInUse end in_use used
+    → ((p : ℕ) → IsFree taken p ↔ (IsFree in_use p ⊎ IsFree free p)) → AreTaken end taken used free
+AreTaken-both end in_use taken used free found both p = (
+  λ f. elim ((both p).0 f) [ inl x ↦ inl ((found p).0 x) | inr y ↦ inr y ],
+  λ w. elim w [ inl x ↦ (both p).1 (inl ((found p).1 x)) | inr y ↦ (both p).1 (inr y) ],
+)
+
+module _ (end : ℕ) (last : end % 4096 ≡ 0) (used free taken gaps : List Extent) (whole : AreWhole free) (found : AreTaken end taken used free)
+    (are : (p : ℕ) → IsFree gaps p ↔ ((8192 ≤ p) × (p < end) × ¬ IsFree taken p)) where
+  pub rest_before : AreBefore end gaps
+  rest_before p f = let x = (are p).0 f in (x.0, x.1)
+
+  pub rest_whole : AreWhole gaps
+  rest_whole p q same f n =
+      let x = (are p).0 f in
+      n ((are q).1 (
+        omega (arith, x.0),
+        omega (arith, x.1),
+        λ y. elim ((found q).0 y) [
+          | inl k ↦ x.2 ((found p).1 (inl (in_use_beside used q p (sym same) k.0, x.1)))
+          | inr k ↦ whole q p (sym same) k (λ z. x.2 ((found p).1 (inr z)))
+        ],
+      ))
+
+  pub rest_are : (p : ℕ) → IsFree gaps p ↔ ((8192 ≤ p) × (p < end) × (IsInUse used p → ⊥) × (IsFree free p ⊎ (end ≤ p) → ⊥))
+  rest_are p = (
+    λ f.
+        let x = (are p).0 f in
+        (x.0, x.1, λ h. x.2 ((found p).1 (inl (h, x.1))), λ w. elim w [ inl k ↦ x.2 ((found p).1 (inr k)) | inr behind ↦ omega (arith, x.1, behind) ]),
+    λ (low, high, n, m). (are p).1 (low, high, λ y. elim ((found p).0 y) [ inl k ↦ n k.0 | inr k ↦ m (inl k) ]),
   )

@@ -1,5 +1,5 @@
 -- Why a pack began no new age.
-use Rattle.std.specs.Prelude.{◌≡◌, ◌-◌, ◌^◌, ℕ}
+use Rattle.std.specs.Prelude.{◌≡◌, ◌-◌, ◌^◌}
 use Rattle.sqlite_disk.specs.declared.Disk.{Ghosts}
 use Rattle.registry_pack.specs.declared.pack.Pack.{Pack}
 use Rattle.registry_pack.specs.declared.pack_ages.RenewError.{RenewError}

@@ -1,17 +1,22 @@
 //! The pack in a new age, in which space is used again that rows once named.
 ghost use Rattle.std.specs.Prelude.{◌≡◌, ◌⊎◌, ◌↔◌, ◌+◌, ◌≤◌, ◌<◌, ℕ, length, IsTrue, IfErr, OnOk, OnErr};
+ghost use Rattle.registry_pack.specs.Blocks.{IsInUse};
 ghost use Rattle.registry_pack.specs.declared.head.Head.{Head};
 ghost use Rattle.registry_pack.specs.Standing.{KeepsElsewhere, KeepsBelow};
 ghost use Rattle.registry_pack.specs.Heads.{AreLasting, OneStands};
 ghost use Rattle.registry_pack.specs.Pack.{file_of, head_of, mark_of, age_of, end_of};
-ghost use Rattle.registry_pack.specs.Pack.{IsWritable, IsRetired, KeepsRetired, KeepsSpace};
+ghost use Rattle.registry_pack.specs.Pack.{IsWritable, IsRetired, KeepsFile, KeepsRetired};
+ghost use Rattle.registry_pack.specs.Pack.{KeepsSpace, KeepsWritable};
 ghost use Rattle.registry_pack.specs.Ages.{IsReason};
 
 use crate::blocks::HEAD;
+use crate::extent::Extent;
 use crate::heads::write_heads;
 use crate::pack::Pack;
+use crate::pack_opening::blocks_in_use;
 use crate::places;
 use sqlite_disk::Disk;
+use std::alloc::AllocError;
 use std::io;
 
 /// Why no new age began.
@@ -26,6 +31,22 @@ pub enum RenewError {
 }
 
 impl<D: Disk> Pack<D> {
+    /// What lies behind the head and before the end is retired from now on, where it is neither in a block of
+    /// these extents nor free: so is space that was lost. What may be written stays so. Takes memory for the
+    /// extents and for the holes between them; after an error, which is want of it, nothing changed.
+    pub fn reclaim(&mut self, used: Vec<Extent>) -> Result<(), AllocError>
+        ensures ok { OnOk result ((p : ℕ) → IsRetired self.new p ↔ ((8192 ≤ p) × (p < end_of self.new)
+            × (IsInUse used.items p → ⊥) × (IsWritable self.old p → ⊥))) }
+        ensures err { OnErr result (KeepsRetired self.old self.new) }
+        ensures writable { KeepsWritable self.old self.new }
+        ensures file { KeepsFile self.old self.new }
+    {
+        let in_use = blocks_in_use(*used.allocator(), &used, self.end)?;
+        let taken = in_use.union(&self.free)?;
+        self.retired = taken.gaps(HEAD, self.end)?;
+        Ok(())
+    }
+
     /// Begins the next age, which the database has committed: both copies of the head say it, each synced
     /// before the other is written, and what was retired is free. After an error the age stays, and nothing
     /// that was retired is free; a call that follows writes the same age. Takes memory for the holes of both.

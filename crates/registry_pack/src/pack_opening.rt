@@ -132,7 +132,7 @@ fn find_end<D: Disk>(disk: &mut D, used: &[Extent]) -> Result<usize, OpenError>
 }
 
 /// The blocks that the extents have bytes in, but for the head and for what lies from `end` on.
-fn blocks_in_use(alloc: Global, used: &[Extent], end: usize) -> Result<Space, AllocError>
+pub(crate) fn blocks_in_use(alloc: Global, used: &[Extent], end: usize) -> Result<Space, AllocError>
     requires { end < 2 ^ 63 }
     ensures { IfOk result
         (λ space. (p : ℕ) → IsFreeIn space p ↔ (IsInUse used.now p × (p < end))) }

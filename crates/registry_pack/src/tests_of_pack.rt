@@ -106,6 +106,25 @@ fn space_is_released_and_retired(rt: HostRuntime) -> Result<(), Fail> {
 }
 
 #[test]
+fn what_is_neither_in_use_nor_free_is_reclaimed(rt: HostRuntime) -> Result<(), Fail> {
+    let alloc = rt.alloc();
+    let mut pack = Pack::create(alloc, Memory::new(alloc), MARK)?;
+    assert_eq!(rt; pack.allocate(4096), Some(extent(8192, 4096)?));
+    let used = pack.allocate(1).ok_or("there is no room")?;
+    let free = pack.allocate(4096).ok_or("there is no room")?;
+    let last = pack.allocate(1).ok_or("there is no room")?;
+    pack.release(free)?;
+    pack.reclaim(vec![in alloc; last, used]?)?;
+    // what was free is so still, and what was lost is free in the next age
+    assert_eq!(rt; pack.allocate(4096), Some(free));
+    assert_eq!(rt; pack.allocate(1), Some(extent(24_576, 1)?));
+    pack.renew()?;
+    assert_eq!(rt; pack.allocate(4096), Some(extent(8192, 4096)?));
+    assert_eq!(rt; pack.allocate(1), Some(extent(28_672, 1)?));
+    Ok(())
+}
+
+#[test]
 fn free_space_is_cut_off(rt: HostRuntime) -> Result<(), Fail> {
     let alloc = rt.alloc();
     let mut pack = Pack::create(alloc, Memory::new(alloc), MARK)?;

@@ -1,38 +1,44 @@
 -- What a store's keeper shows after a call.
 use Rattle.std.proofs.Common.{◌≡◌, Bool, true, false, subst}
 use Rattle.sqlite_trees.specs.declared.store.Store.{Ghosts}
-use Rattle.sqlite.specs.State.{HasCleanDisk}
-use Rattle.sqlite.specs.Held.{Held, state}
+use Rattle.sqlite.specs.Held.{Held}
 use Rattle.registry_model.specs.World.{World}
 use Rattle.registry_model.specs.Keeping as keeping
 use Rattle.registry_model.specs.Keeping.{nothing_held}
-use Rattle.store_contents.specs.Layouts.{InTables}
-use Rattle.store_statements.specs.World.{world_of}
-use Rattle.registry_store.specs.Kept.{Kept}
-use Rattle.store_statements.specs.Held.{tables_in, world_in}
+use Rattle.store_bytes.specs.declared.contents.Contents as contents
+use Rattle.registry_store.specs.Kept.{Both, Kept, IsClean, both, shown, world_at}
 
-module _ {S : Type 0} (g : Ghosts S) (conn : Held S) (old : Kept S) (spent : Bool) (is : ◌≡◌ {A = Kept S} (record { conn = conn; spent = spent }) old) (new : Held S) where
-  -- a write made its change
-  pub wrote : (change : World → World) → spent ≡ false → world_in InTables (state g new) ≡ change (world_in InTables (state g conn))
-      → ◌≡◌ {A = keeping.Kept} (record { world = world_in InTables (state g new); spent = spent; held = nothing_held }) (record { world = change (world_in InTables (state g old.conn)); spent = false; held = nothing_held })
-  wrote change unspent e = subst (λ (k : Kept S). ◌≡◌ {A = keeping.Kept} (record { world = world_in InTables (state g new); spent = spent; held = nothing_held }) (record { world = change (world_in InTables (state g k.conn)); spent = false; held = nothing_held })) is (λ i. record { world = e i; spent = unspent i; held = nothing_held })
+-- what it shows of both, whether the storage has failed or not
+abbrev pub shows : {S C : Type 0} → Ghosts S → contents.Ghosts C → Both S C → Bool → keeping.Kept
+shows g c it spent = record { world = world_at g c it; spent = spent; held = nothing_held }
 
-  -- nothing changed
-  pub stood : (state g new).now ≡ (state g conn).now → ◌≡◌ {A = keeping.Kept} (record { world = world_in InTables (state g new); spent = spent; held = nothing_held }) (record { world = world_in InTables (state g old.conn); spent = old.spent; held = nothing_held })
-  stood e = subst (λ (k : Kept S). ◌≡◌ {A = keeping.Kept} (record { world = world_in InTables (state g new); spent = spent; held = nothing_held }) (record { world = world_in InTables (state g k.conn); spent = k.spent; held = nothing_held })) is (λ i. record { world = world_of (tables_in InTables (e i)); spent = spent; held = nothing_held })
+module _ {S C : Type 0} (g : Ghosts S) (c : contents.Ghosts C) (conn : Held S) (kept : C) (old : Kept S C) (spent : Bool) (is : ◌≡◌ {A = Kept S C} (record { conn = conn; contents = kept; spent = spent }) old) where
+  abbrev pub here : Both S C
+  here = (conn, kept)
 
-module _ {S : Type 0} (g : Ghosts S) (conn : Held S) (old : Kept S) (spent : Bool) (is : ◌≡◌ {A = Kept S} (record { conn = conn; spent = spent }) old) where
+  module _ (new : Both S C) where
+    -- a write made its change
+    pub wrote : (change : World → World) → spent ≡ false → world_at g c new ≡ change (world_at g c here)
+        → ◌≡◌ {A = keeping.Kept} (shows g c new spent) (record { world = change (world_at g c (both old)); spent = false; held = nothing_held })
+    wrote change unspent e =
+        subst (λ (k : Kept S C). ◌≡◌ {A = keeping.Kept} (shows g c new spent) (record { world = change (world_at g c (both k)); spent = false; held = nothing_held })) is
+        (λ i. record { world = e i; spent = unspent i; held = nothing_held })
+
+    -- nothing changed
+    pub stood : world_at g c new ≡ world_at g c here → ◌≡◌ {A = keeping.Kept} (shows g c new spent) (shown g c old)
+    stood e = subst (λ (k : Kept S C). ◌≡◌ {A = keeping.Kept} (shows g c new spent) (shown g c k)) is (λ i. record { world = e i; spent = spent; held = nothing_held })
+
   -- a read found its value
-  pub found : {A : Type 0} (look : World → A) (v : A) → v ≡ look (world_in InTables (state g conn)) → v ≡ look (world_in InTables (state g old.conn))
-  found look v e = subst (λ (k : Kept S). v ≡ look (world_in InTables (state g k.conn))) is e
+  pub found : {A : Type 0} (look : World → A) (v : A) → v ≡ look (world_at g c here) → v ≡ look (world_at g c (both old))
+  found look v e = subst (λ (k : Kept S C). v ≡ look (world_at g c (both k))) is e
 
   -- a read found a value of which something is so
-  pub found_so : {A : Type 0} (P : World → A → Type 0) (v : A) → P (world_in InTables (state g conn)) v → P (world_in InTables (state g old.conn)) v
-  found_so P v h = subst (λ (k : Kept S). P (world_in InTables (state g k.conn)) v) is h
+  pub found_so : {A : Type 0} (P : World → A → Type 0) (v : A) → P (world_at g c here) v → P (world_at g c (both old)) v
+  found_so P v h = subst (λ (k : Kept S C). P (world_at g c (both k)) v) is h
 
-  -- what a caller knows of the world, said of the connection
-  pub asked : (P : World → Type 0) (ours : Bool) → spent ≡ false → ours ≡ true → (HasCleanDisk (state g old.conn) × (ours ≡ true) → old.spent ≡ false → P (world_in InTables (state g old.conn)))
-      → HasCleanDisk (state g conn) → P (world_in InTables (state g conn))
+  -- what a caller knows of the world, said of both
+  pub asked : (P : World → Type 0) (ours : Bool) → spent ≡ false → ours ≡ true → (IsClean g c (both old) × (ours ≡ true) → old.spent ≡ false → P (world_at g c (both old)))
+      → IsClean g c here → P (world_at g c here)
   asked P ours unspent known h =
-      subst (λ (k : Kept S). (HasCleanDisk (state g k.conn) × (ours ≡ true) → k.spent ≡ false → P (world_in InTables (state g k.conn))) → HasCleanDisk (state g conn) → P (world_in InTables (state g conn))) is
+      subst (λ (k : Kept S C). (IsClean g c (both k) × (ours ≡ true) → k.spent ≡ false → P (world_at g c (both k))) → IsClean g c here → P (world_at g c here)) is
       (λ f clean. f (clean, known) unspent) h

@@ -18,7 +18,7 @@ use Rattle.registry_model.specs.Manifests.{kind_in}
 use Rattle.registry_model.specs.Command.{set_repo, with_quota}
 use Rattle.registry_model.specs.Lookups.{blob_at, manifest_at, tag_at, usage_at, no_usage}
 use Rattle.registry_model.proofs.TextOrder.{text_total, same_key}
-use Rattle.store_contents.specs.Layouts.{InTables}
+use Rattle.store_contents.specs.Layouts.{Layout}
 use Rattle.store_statements.specs.Held.{IsSettled, StaysSettled, SettlesOn, is_storage, world_in}
 use Rattle.store_reads.specs.declared.usage_change.Change.{Change}
 use Rattle.registry_store.specs.declared.known_usages.KnownUsages.{KnownUsages}
@@ -108,31 +108,31 @@ followed old new w name f change knows there told sets = by (repo_at w name) ref
         (λ u next. next_is w name r f (known_at old name) change u at (λ v e. knows name v e) told next)
 
 -- after a write that was foretold
-pub follows : (old new : KnownUsages) (s : State) (w : World) (name : Text) (f : Repo → Repo) (change : Option Change) → Knows old w → has_repo w name ≡ true
-    → IfSome change (Foretells w name f) → Sets old new name (IsNext (known_at old name) change) → world_in InTables s ≡ update_repo w name f (repo_at w name) → Knows new (world_in InTables s)
-follows old new s w name f change knows there told sets made = subst (Knows new) (sym made) (followed old new w name f change knows there told sets)
+pub follows : (l : Layout) (old new : KnownUsages) (s : State) (w : World) (name : Text) (f : Repo → Repo) (change : Option Change) → Knows old w → has_repo w name ≡ true
+    → IfSome change (Foretells w name f) → Sets old new name (IsNext (known_at old name) change) → world_in l s ≡ update_repo w name f (repo_at w name) → Knows new (world_in l s)
+follows l old new s w name f change knows there told sets made = subst (Knows new) (sym made) (followed old new w name f change knows there told sets)
 
 -- a fault that is no failure of the storage
-pub unfollowed : {A : Type 0} (known : KnownUsages) (old new : State) (f : Fault) → Knows known (world_in InTables old) → is_storage {A = A} (Err f) ≡ false
-    → (◌≡◌ {A = Result A Fault} (Err f) (Err Memory) → StaysSettled InTables old new) → Knows known (world_in InTables new)
-unfollowed known old new Memory knows sound stays = later InTables (Knows known) old new (stays refl).1 knows
-unfollowed known old new Storage knows sound stays = absurd cc
+pub unfollowed : {A : Type 0} (l : Layout) (known : KnownUsages) (old new : State) (f : Fault) → Knows known (world_in l old) → is_storage {A = A} (Err f) ≡ false
+    → (◌≡◌ {A = Result A Fault} (Err f) (Err Memory) → StaysSettled l old new) → Knows known (world_in l new)
+unfollowed l known old new Memory knows sound stays = later l (Knows known) old new (stays refl).1 knows
+unfollowed l known old new Storage knows sound stays = absurd cc
 
 -- a write to a repository that was forgotten
-pub forgets : {A : Type 0} (old new : KnownUsages) (before after : State) (name : Text) (f : World → World) (answer : Result A Fault) → Knows old (world_in InTables before) → Sets old new name (λ _. ⊥)
-    → ((q : Text) → q ≢ name → repo_at (f (world_in InTables before)) q ≡ repo_at (world_in InTables before) q) → is_storage answer ≡ false
-    → OnOk answer (SettlesOn InTables after (f (world_in InTables before))) → (answer ≡ Err Memory → StaysSettled InTables before after) → Knows new (world_in InTables after)
-forgets old new before after name f (Ok v) knows sets same sound made stays =
-    subst (Knows new) (sym made.1) (set_knows old new (world_in InTables before) (f (world_in InTables before)) name (λ _. ⊥) knows sets same (λ u none. absurd none))
-forgets old new before after name f (Err Memory) knows sets same sound made stays =
-    later InTables (Knows new) before after (stays refl).1 (set_knows old new (world_in InTables before) (world_in InTables before) name (λ _. ⊥) knows sets (λ q apart. refl) (λ u none. absurd none))
-forgets old new before after name f (Err Storage) knows sets same sound made stays = absurd cc
+pub forgets : {A : Type 0} (l : Layout) (old new : KnownUsages) (before after : State) (name : Text) (f : World → World) (answer : Result A Fault) → Knows old (world_in l before) → Sets old new name (λ _. ⊥)
+    → ((q : Text) → q ≢ name → repo_at (f (world_in l before)) q ≡ repo_at (world_in l before) q) → is_storage answer ≡ false
+    → OnOk answer (SettlesOn l after (f (world_in l before))) → (answer ≡ Err Memory → StaysSettled l before after) → Knows new (world_in l after)
+forgets l old new before after name f (Ok v) knows sets same sound made stays =
+    subst (Knows new) (sym made.1) (set_knows old new (world_in l before) (f (world_in l before)) name (λ _. ⊥) knows sets same (λ u none. absurd none))
+forgets l old new before after name f (Err Memory) knows sets same sound made stays =
+    later l (Knows new) before after (stays refl).1 (set_knows old new (world_in l before) (world_in l before) name (λ _. ⊥) knows sets (λ q apart. refl) (λ u none. absurd none))
+forgets l old new before after name f (Err Storage) knows sets same sound made stays = absurd cc
 
 -- a usage that was read is kept
-pub keeps : (old new : KnownUsages) (before after : State) (name : Text) (usage : Usage) → Knows old (world_in InTables before) → Sets old new name (λ u. u ≡ usage) → usage ≡ usage_at (world_in InTables before) name
-    → after.now ≡ before.now → Knows new (world_in InTables after)
-keeps old new before after name usage knows sets is same =
-    later InTables (Knows new) before after same (set_knows old new (world_in InTables before) (world_in InTables before) name (λ u. u ≡ usage) knows sets (λ q apart. refl) (λ u e. e ∙ is))
+pub keeps : (l : Layout) (old new : KnownUsages) (before after : State) (name : Text) (usage : Usage) → Knows old (world_in l before) → Sets old new name (λ u. u ≡ usage) → usage ≡ usage_at (world_in l before) name
+    → after.now ≡ before.now → Knows new (world_in l after)
+keeps l old new before after name usage knows sets is same =
+    later l (Knows new) before after same (set_knows old new (world_in l before) (world_in l before) name (λ u. u ≡ usage) knows sets (λ q apart. refl) (λ u e. e ∙ is))
 
 -- ---- what is there is in a repository that is there
 
@@ -187,19 +187,19 @@ requoted old new w name quota knows sets =
     by u (Some v) was has = has ∙ ap (λ (x : Usage). record x { quota = quota }) (was v refl)
 
 -- after the write
-pub requotes : (old new : KnownUsages) (before after : State) (name : Text) (quota : ℕ) → Knows old (world_in InTables before) → Sets old new name (HasQuota quota (known_at old name))
-    → world_in InTables after ≡ set_repo (world_in InTables before) name quota → Knows new (world_in InTables after)
-requotes old new before after name quota knows sets made = subst (Knows new) (sym made) (requoted old new (world_in InTables before) name quota knows sets)
+pub requotes : (l : Layout) (old new : KnownUsages) (before after : State) (name : Text) (quota : ℕ) → Knows old (world_in l before) → Sets old new name (HasQuota quota (known_at old name))
+    → world_in l after ≡ set_repo (world_in l before) name quota → Knows new (world_in l after)
+requotes l old new before after name quota knows sets made = subst (Knows new) (sym made) (requoted old new (world_in l before) name quota knows sets)
 
 -- ---- what holds of a store
 
 -- after a read
-pub still_knows : (known : KnownUsages) (old new : State) → StaysSettled InTables old new → Knows known (world_in InTables old) → IsSettled InTables new × Knows known (world_in InTables new)
-still_knows known old new stays knows = (stays.0, later InTables (Knows known) old new stays.1 knows)
+pub still_knows : (l : Layout) (known : KnownUsages) (old new : State) → StaysSettled l old new → Knows known (world_in l old) → IsSettled l new × Knows known (world_in l new)
+still_knows l known old new stays knows = (stays.0, later l (Knows known) old new stays.1 knows)
 
 -- after a write to no repository
-pub untouched : {A : Type 0} (known : KnownUsages) (old new : State) (f : World → World) (answer : Result A Fault) → Knows known (world_in InTables old) → Knows known (f (world_in InTables old)) → is_storage answer ≡ false
-    → OnOk answer (SettlesOn InTables new (f (world_in InTables old))) → (answer ≡ Err Memory → StaysSettled InTables old new) → Knows known (world_in InTables new)
-untouched known old new f (Ok v) knows after sound made stays = subst (Knows known) (sym made.1) after
-untouched known old new f (Err Memory) knows after sound made stays = later InTables (Knows known) old new (stays refl).1 knows
-untouched known old new f (Err Storage) knows after sound made stays = absurd cc
+pub untouched : {A : Type 0} (l : Layout) (known : KnownUsages) (old new : State) (f : World → World) (answer : Result A Fault) → Knows known (world_in l old) → Knows known (f (world_in l old)) → is_storage answer ≡ false
+    → OnOk answer (SettlesOn l new (f (world_in l old))) → (answer ≡ Err Memory → StaysSettled l old new) → Knows known (world_in l new)
+untouched l known old new f (Ok v) knows after sound made stays = subst (Knows known) (sym made.1) after
+untouched l known old new f (Err Memory) knows after sound made stays = later l (Knows known) old new (stays refl).1 knows
+untouched l known old new f (Err Storage) knows after sound made stays = absurd cc

@@ -5,3 +5,10 @@ pub mod FilesFound
 pub mod Followed
 pub mod KnownChanges
 pub mod KnownWorlds
+pub mod RowCalls
+pub mod StagedCalls
+pub mod SourceWrites
+pub mod KnownCalls
+pub mod RowWrites
+pub mod PackCalls
+pub mod NewPack

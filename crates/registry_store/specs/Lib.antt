@@ -1,4 +1,7 @@
 pub mod Kept
+pub mod Outcomes
+pub mod Calls
+pub mod Staged
 pub mod KeptWrites
 pub mod Opening
 pub mod Unwritten

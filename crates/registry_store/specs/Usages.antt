@@ -9,7 +9,7 @@ use Rattle.oci_types.specs.declared.fault.Fault.{Fault}
 use Rattle.registry_model.specs.declared.quota.Usage.{Usage}
 use Rattle.registry_model.specs.World.{World, text_cmp}
 use Rattle.registry_model.specs.Lookups.{usage_at}
-use Rattle.store_contents.specs.Layouts.{InTables}
+use Rattle.store_contents.specs.Layouts.{Layout}
 use Rattle.store_statements.specs.Held.{IsSettled, world_in, is_storage}
 use Rattle.store_reads.specs.declared.usage_change.Change.{Change}
 use Rattle.registry_store.specs.declared.known_usages.KnownUsages.{KnownUsages}
@@ -22,14 +22,15 @@ abbrev pub Knows : KnownUsages → World → Type 0
 Knows known w = (name : Text) (u : Usage) → known_at known name ≡ Some u → u ≡ usage_at w name
 
 -- each known usage is that of the tables' world
-abbrev pub IsKnown : {S : Type 0} → Ghosts S → Held S → KnownUsages → Type 0
-IsKnown g conn known = HasCleanDisk (state g conn) → Knows known (world_in InTables (state g conn))
+abbrev pub IsKnown : {S : Type 0} → Ghosts S → Layout → Held S → KnownUsages → Type 0
+IsKnown g l conn known = HasCleanDisk (state g conn) → Knows known (world_in l (state g conn))
 
 -- and so it is after a call over tables that were settled, unless the storage failed
-abbrev pub StaysKnown : {S A : Type 0} → Ghosts S → Held S → Held S → KnownUsages → Result A Fault → Type 0
-StaysKnown g old new known r =
-    HasCleanDisk (state g new) → IsSettled InTables (state g old) → is_storage r ≡ false
-    → Knows known (world_in InTables (state g new))
+abbrev pub StaysKnown : {S A : Type 0} → Ghosts S → Layout → Held S → Held S → KnownUsages → Result A Fault
+    → Type 0
+StaysKnown g l old new known r =
+    HasCleanDisk (state g new) → IsSettled l (state g old) → is_storage r ≡ false
+    → Knows known (world_in l (state g new))
 
 -- what is known of the one name is so, and what is known of any other was known before
 pub record Sets (old new : KnownUsages) (name : Text) (IsSo : Usage → Type 0) : Type 0 where

@@ -6,13 +6,16 @@ ghost use Rattle.sqlite.specs.Held.{state};
 ghost use Rattle.registry_model.specs.World.{has_repo};
 ghost use Rattle.registry_model.specs.Lookups.{append, last_number_at, open_session, session_at};
 ghost use Rattle.registry_model.specs.Closing.{session_matches, finish_as_is};
-ghost use Rattle.store_contents.specs.Layouts.{InTables};
+ghost use Rattle.store_contents.specs.Layouts.{Layout, InTables};
+ghost use Rattle.store_places.specs.Source.{Suits, text_in};
 ghost use Rattle.store_statements.specs.Held.{IsSettled, SettlesOn, world_in};
-ghost use Rattle.store_statements.specs.Between.{CrashLeaves, MakesWorld, StaysOnMemory};
+ghost use Rattle.store_statements.specs.Between.{CrashLeaves, MakesWorld, Relates, StaysOnMemory};
 ghost use Rattle.store_statements.specs.Clauses.{Lasts, WorldHas};
+ghost use Rattle.store_statements.specs.PlaceChanges.{AddsPlaces, KeepsPlaces};
 ghost use Rattle.store_writes.specs.Whole.{DoneWhereSo};
-ghost use Rattle.registry_store.specs.KeptWrites.{LeavesWhereSo};
+ghost use Rattle.registry_store.specs.Outcomes.{RowsLeaveWhereSo};
 ghost use Rattle.registry_store.specs.Usages.{IsKnown, StaysKnown};
+ghost use Rattle.registry_store.specs.Writes.{AreOf};
 
 use crate::following::follow_made;
 use crate::known_usages::KnownUsages;
@@ -28,17 +31,18 @@ pub(crate) fn open_session<S: Alter>(
     known: &mut KnownUsages,
     repo: &RepoName,
 ) -> Result<u64, Fault>
-    ensures made { HasCleanDisk (state S.Store conn.new) → IsSettled InTables (state S.Store conn.old)
+    ensures made { (l : Layout) → HasCleanDisk (state S.Store conn.new) → IsSettled l (state S.Store conn.old)
         → IfOk result
-        (λ n. (n ≡ last_number_at (world_in InTables (state S.Store conn.old)) repo.now + 1)
-        × SettlesOn InTables
-        (state S.Store conn.new) (open_session (world_in InTables (state S.Store conn.old)) repo.now)) }
-    ensures memory { StaysOnMemory S.Store InTables conn.old conn.new result }
-    ensures crash { CrashLeaves S.Store InTables conn.old conn.new result (λ w. open_session w repo.now) }
+        (λ n. (n ≡ last_number_at (world_in l (state S.Store conn.old)) repo.now + 1) × SettlesOn l
+        (state S.Store conn.new) (open_session (world_in l (state S.Store conn.old)) repo.now)) }
+    ensures places { (l : Layout) → Relates S.Store l conn.old conn.new result KeepsPlaces }
+    ensures memory { (l : Layout) → StaysOnMemory S.Store l conn.old conn.new result }
+    ensures crash { (l : Layout)
+        → CrashLeaves S.Store l conn.old conn.new result (λ w. open_session w repo.now) }
     ensures survives { Lasts S.Store conn.old conn.new }
-    ensures known { IsKnown S.Store conn.old known.old
-        → WorldHas S.Store InTables conn.old (λ w. has_repo w repo.now ≡ true)
-        → StaysKnown S.Store conn.old conn.new known.new result }
+    ensures known { (l : Layout) → IsKnown S.Store l conn.old known.old
+        → WorldHas S.Store l conn.old (λ w. has_repo w repo.now ≡ true)
+        → StaysKnown S.Store l conn.old conn.new known.new result }
 {
     let one_more = Change {
         opened: 1,
@@ -58,25 +62,31 @@ pub(crate) fn append<S: Alter>(
     repo: &RepoName,
     number: u64,
     bytes: &[u8],
+    source: Source<'_>,
     hash: Option<[u8; 32]>,
 ) -> Result<(), Fault>
     requires hashed { IfSome hash (λ h. h ≡ sha256 bytes.now) }
-    ensures made { WorldHas S.Store InTables conn.old (λ w. is_some (session_at w repo.now number) ≡ true)
-        → MakesWorld S.Store InTables conn.old conn.new result (λ w. append w repo.now number bytes.now) }
-    ensures memory { StaysOnMemory S.Store InTables conn.old conn.new result }
-    ensures crash { WorldHas S.Store InTables conn.old (λ w. is_some (session_at w repo.now number) ≡ true)
-        → CrashLeaves S.Store InTables conn.old conn.new result
-        (λ w. append w repo.now number bytes.now) }
+    requires kept { AreOf source bytes.now }
+    ensures made { (l : Layout) → Suits l source.entry → text_in l source.entry ≡ bytes.now
+        → WorldHas S.Store l conn.old (λ w. is_some (session_at w repo.now number) ≡ true)
+        → MakesWorld S.Store l conn.old conn.new result (λ w. append w repo.now number bytes.now) }
+    ensures places { (l : Layout) → Suits l source.entry
+        → Relates S.Store l conn.old conn.new result (AddsPlaces source.entry) }
+    ensures memory { (l : Layout) → Suits l source.entry → StaysOnMemory S.Store l conn.old conn.new result }
+    ensures crash { (l : Layout) → Suits l source.entry → text_in l source.entry ≡ bytes.now
+        → WorldHas S.Store l conn.old (λ w. is_some (session_at w repo.now number) ≡ true)
+        → CrashLeaves S.Store l conn.old conn.new result (λ w. append w repo.now number bytes.now) }
     ensures survives { Lasts S.Store conn.old conn.new }
-    ensures known { IsKnown S.Store conn.old known.old
-        → WorldHas S.Store InTables conn.old (λ w. is_some (session_at w repo.now number) ≡ true)
-        → StaysKnown S.Store conn.old conn.new known.new result }
+    ensures known { (l : Layout) → Suits l source.entry → text_in l source.entry ≡ bytes.now
+        → IsKnown S.Store l conn.old known.old
+        → WorldHas S.Store l conn.old (λ w. is_some (session_at w repo.now number) ≡ true)
+        → StaysKnown S.Store l conn.old conn.new known.new result }
 {
     let longer = Change {
         added: bytes.len() as u64,
         ..NO_CHANGE
     };
-    let made = store_writes::append(alloc, conn, repo, number, Source::Bytes(bytes), hash);
+    let made = store_writes::append(alloc, conn, repo, number, source, hash);
     follow_made(known, repo, Some(longer), &made);
     made
 }
@@ -96,14 +106,15 @@ pub(crate) fn finish_known<S: Alter>(
         (λ done. DoneWhereSo InTables done (state S.Store conn.old) (state S.Store conn.new)
         (λ w. session_matches w repo.now number digest.now)
         (λ w. finish_as_is w repo.now number digest.now)) }
+    ensures places { Relates S.Store InTables conn.old conn.new result KeepsPlaces }
     ensures memory { StaysOnMemory S.Store InTables conn.old conn.new result }
     ensures crash { HasCleanDisk (state S.Store conn.new) → IsSettled InTables (state S.Store conn.old)
-        → LeavesWhereSo (state S.Store conn.old) (state S.Store conn.new) result
+        → RowsLeaveWhereSo InTables (state S.Store conn.old) (state S.Store conn.new) result
         (λ w. session_matches w repo.now number digest.now)
         (λ w. finish_as_is w repo.now number digest.now) }
     ensures survives { Lasts S.Store conn.old conn.new }
-    ensures known { IsKnown S.Store conn.old known.old
-        → StaysKnown S.Store conn.old conn.new known.new result }
+    ensures known { IsKnown S.Store InTables conn.old known.old
+        → StaysKnown S.Store InTables conn.old conn.new known.new result }
 {
     match store_writes::finish_known(alloc, conn, repo, number, digest) {
         Ok(Some(end)) => {

@@ -1,6 +1,6 @@
 //! What a write is going to change of a usage that is known, told before it.
 ghost use Rattle.std.specs.Prelude.{◌≡◌, None, IfSome, IfErr};
-ghost use Rattle.store_contents.specs.Layouts.{InTables};
+ghost use Rattle.store_contents.specs.Layouts.{Layout};
 ghost use Rattle.store_statements.specs.Between.{Keeps, Stays, Tells};
 ghost use Rattle.store_statements.specs.Clauses.{Lasts};
 ghost use Rattle.store_reads.specs.Usages.{Foretells};
@@ -24,10 +24,10 @@ fn look_up<S: Alter>(
     repo: &RepoName,
     write: Write<'_>,
 ) -> Result<Option<Change>, Fault>
-    ensures found { Tells S.Store InTables conn.old conn.new result
+    ensures found { (l : Layout) → Tells S.Store l conn.old conn.new result
         (λ w change. IfSome change (Foretells w repo.now (becomes write.entry repo.now w))) }
-    ensures settled { Stays S.Store InTables conn.old conn.new result }
-    ensures kept { Keeps S.Store InTables conn.old conn.new }
+    ensures settled { (l : Layout) → Stays S.Store l conn.old conn.new result }
+    ensures kept { (l : Layout) → Keeps S.Store l conn.old conn.new }
     ensures survives { Lasts S.Store conn.old conn.new }
 {
     match write {
@@ -42,6 +42,7 @@ fn look_up<S: Alter>(
             number,
             digest,
             bytes,
+            ..
         } => finish_change(conn, repo, number, digest, bytes),
         Write::DeleteBlob { digest } => delete_blob_change(conn, repo, digest),
         Write::DeleteBlobs { digests } => delete_blobs_change(conn, repo, digests),
@@ -60,11 +61,11 @@ pub(crate) fn foretell<S: Alter>(
     repo: &RepoName,
     write: Write<'_>,
 ) -> Result<Option<Change>, Fault>
-    ensures found { Tells S.Store InTables conn.old conn.new result
+    ensures found { (l : Layout) → Tells S.Store l conn.old conn.new result
         (λ w change. IfSome change (Foretells w repo.now (becomes write.entry repo.now w))) }
     ensures unasked { known_at known.now repo.now ≡ None → conn.new ≡ conn.old }
-    ensures settled { Stays S.Store InTables conn.old conn.new result }
-    ensures kept { Keeps S.Store InTables conn.old conn.new }
+    ensures settled { (l : Layout) → Stays S.Store l conn.old conn.new result }
+    ensures kept { (l : Layout) → Keeps S.Store l conn.old conn.new }
     ensures survives { Lasts S.Store conn.old conn.new }
     ensures failing { IfErr result (λ fault. fault ≡ Fault.Storage) }
 {

@@ -1,4 +1,4 @@
-//! A registry's world in the tables of a database.
+//! A registry's world in the tables of a database, with the bytes of its contents there or in a pack.
 ghost use Rattle.std.specs.Prelude.{◌≡◌, ◌≢◌, ℤ, pos, true, false, Ok, IfOk, IfErr, ⊤};
 ghost use Rattle.sqlite.specs.State.{HasCleanDisk, Survives};
 ghost use Rattle.sqlite.specs.Held.{state};
@@ -22,37 +22,37 @@ use sqlite::{Alter, Connection, Error, FileFrom, FileStore, MemStore};
 use sqlite_disk::Disk;
 use std::alloc::Global;
 use std::marker::{Model, PhantomData};
+use store_bytes::{Contents, TableContents};
 use store_opening::{OpenFault, fault_in_opening, let_go, take_up};
 
-/// Keeps a registry's world in the tables of a database, and knows besides what some of its repositories
-/// hold. Once the storage has failed it is spent, and answers `Fault::Storage` alone.
+/// Keeps a registry's world in the tables of a database, the bytes of contents where `C` keeps them, and
+/// knows besides what some of its repositories hold. Once the storage has failed it is spent, and answers
+/// `Fault::Storage` alone.
 #[derive(Drop)]
-pub struct Store<S: Alter, O: Origin = Ours> {
+pub struct Store<S: Alter, O: Origin = Ours, C: Contents = TableContents> {
     pub(crate) alloc: Global,
     pub(crate) conn: Connection<S>,
+    pub(crate) contents: C,
     pub(crate) spent: bool,
     pub(crate) known: KnownUsages,
     pub(crate) origin: PhantomData<O>,
 }
 
-impl<S: Alter, O: Origin> Model for Store<S, O> {
+impl<S: Alter, O: Origin, C: Contents> Model for Store<S, O, C> {
     ghost use Rattle.std.specs.Prelude.{◌≡◌, true, false};
-    ghost use Rattle.sqlite.specs.State.{HasCleanDisk};
-    ghost use Rattle.sqlite.specs.Held.{state};
-    ghost use Rattle.registry_store.specs.Kept.{Kept, kept_code};
+    ghost use Rattle.registry_store.specs.Kept.{IsClean, IsInOrder, Kept, kept_code, world_at};
     ghost use Rattle.registry_store.specs.Usages.{Knows};
-    ghost use Rattle.store_contents.specs.Layouts.{InTables};
-    ghost use Rattle.store_statements.specs.Held.{IsSettled, world_in};
 
-    ghost Value = { Kept S };
+    ghost Value = { Kept S C };
 
-    ghost coded = { kept_code S.code };
+    ghost coded = { kept_code S.code C.code };
 
-    ghost view = { λ s. record { conn = s.conn; spent = s.spent } };
+    ghost view = { λ s. record { conn = s.conn; contents = s.contents; spent = s.spent } };
 
-    ghost invariant = { λ s. s.spent ≡ false → O.is_ours ≡ true → HasCleanDisk (state S.Store s.conn)
-        → IsSettled InTables (state S.Store s.conn)
-        × Knows s.known (world_in InTables (state S.Store s.conn)) };
+    ghost invariant = { λ s. s.spent ≡ false → O.is_ours ≡ true
+        → IsClean S.Store C.Contents (s.conn, s.contents)
+        → IsInOrder S.Store C.Contents (s.conn, s.contents)
+        × Knows s.known (world_at S.Store C.Contents (s.conn, s.contents)) };
 }
 
 impl Store<MemStore> {
@@ -138,6 +138,7 @@ impl<S: Alter, O: Origin> Store<S, O> {
             Ok(()) => Ok(Store {
                 alloc,
                 conn,
+                contents: TableContents,
                 spent: false,
                 known: KnownUsages::new(alloc),
                 origin: PhantomData,
@@ -153,6 +154,38 @@ impl<S: Alter, O: Origin> Store<S, O> {
             → IsSettled InTables (state S.Store result) }
     {
         self.conn
+    }
+}
+
+impl<S: Alter, O: Origin, C: Contents> Store<S, O, C> {
+    ghost use Rattle.registry_store.specs.Kept.{IsClean, IsInOrder};
+
+    /// The registry in the tables of a database, whose bytes are where `contents` has them. Nothing is read:
+    /// where its origin is `Ours`, that both are in order is for the caller to know.
+    pub fn over(alloc: Global, conn: Connection<S>, contents: C) -> Store<S, O, C>
+        requires ours { O.is_ours ≡ true → IsClean S.Store C.Contents (conn, contents)
+            → IsInOrder S.Store C.Contents (conn, contents) }
+        ensures conn { result.conn ≡ conn }
+        ensures contents { result.contents ≡ contents }
+        ensures unspent { result.spent ≡ false }
+    {
+        Store {
+            alloc,
+            conn,
+            contents,
+            spent: false,
+            known: KnownUsages::new(alloc),
+            origin: PhantomData,
+        }
+    }
+
+    /// Gives both back, as they are.
+    pub fn into_parts(self) -> (Connection<S>, C)
+        ensures same { result ≡ (self.conn, self.contents) }
+        ensures ordered { self.spent ≡ false → O.is_ours ≡ true → IsClean S.Store C.Contents result
+            → IsInOrder S.Store C.Contents result }
+    {
+        (self.conn, self.contents)
     }
 }
 

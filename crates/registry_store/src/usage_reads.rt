@@ -1,7 +1,7 @@
 //! What a repository holds, by what is known of it or by its rows.
 ghost use Rattle.std.specs.Prelude.{◌≡◌};
 ghost use Rattle.registry_model.specs.Lookups.{usage_at};
-ghost use Rattle.store_contents.specs.Layouts.{InTables};
+ghost use Rattle.store_contents.specs.Layouts.{Layout};
 ghost use Rattle.store_statements.specs.Between.{Stays, Tells};
 ghost use Rattle.store_statements.specs.Clauses.{Lasts};
 ghost use Rattle.registry_store.specs.Usages.{IsKnown, StaysKnown};
@@ -20,12 +20,12 @@ pub fn recalled_usage<S: Alter>(
     known: &mut KnownUsages,
     repo: &RepoName,
 ) -> Result<Usage, Fault>
-    ensures found { IsKnown S.Store conn.old known.old
-        → Tells S.Store InTables conn.old conn.new result (λ w u. u ≡ usage_at w repo.now) }
-    ensures settled { Stays S.Store InTables conn.old conn.new result }
+    ensures found { (l : Layout) → IsKnown S.Store l conn.old known.old
+        → Tells S.Store l conn.old conn.new result (λ w u. u ≡ usage_at w repo.now) }
+    ensures settled { (l : Layout) → Stays S.Store l conn.old conn.new result }
     ensures survives { Lasts S.Store conn.old conn.new }
-    ensures known { IsKnown S.Store conn.old known.old
-        → StaysKnown S.Store conn.old conn.new known.new result }
+    ensures known { (l : Layout) → IsKnown S.Store l conn.old known.old
+        → StaysKnown S.Store l conn.old conn.new known.new result }
 {
     if let Some(usage) = known.usage(repo) {
         return Ok(usage);

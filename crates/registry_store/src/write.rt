@@ -1,6 +1,7 @@
 //! What is written to a repository, as a value.
 
 use oci_types::{Digest, Manifest, RepoName, Tag};
+use store_places::Source;
 
 /// A write to what a repository holds, whose change look-ups tell.
 #[derive(Clone, Copy)]
@@ -10,18 +11,20 @@ pub(crate) enum Write<'a> {
         from: &'a RepoName,
         digest: &'a Digest,
     },
-    /// A manifest comes, and the tag, if there is one, names it.
+    /// A manifest comes, and the tag, if there is one, names it. What is kept is the bytes' source.
     PutManifest {
         digest: &'a Digest,
         bytes: &'a [u8],
+        source: Source<'a>,
         manifest: &'a Manifest,
         tag: Option<&'a Tag>,
     },
-    /// An upload session ends, and these bytes come as a blob.
+    /// An upload session ends, and these bytes come as a blob. What is kept is their source.
     Finish {
         number: u64,
         digest: &'a Digest,
         bytes: &'a [u8],
+        source: Source<'a>,
     },
     /// A blob goes.
     DeleteBlob {

@@ -24,6 +24,9 @@ content_remove = codes "DELETE FROM registry_contents WHERE id = ?1"
 abbrev pub content_find : List ℕ
 content_find = codes "SELECT size FROM registry_contents WHERE id = ?1"
 
+abbrev pub content_list : List ℕ
+content_list = codes "SELECT id FROM registry_contents"
+
 -- ---- places: a row goes (rowid, content, start, size, at)
 
 abbrev pub place_add : List ℕ
@@ -77,6 +80,7 @@ pub record KnowsContentTexts (schema : Schema) (stands : Stands schema contents_
   pub remove : Means schema content_remove (deletes stands.at schema contents_table by_id)
   pub find : Means schema content_find
       (selects schema contents_table by_id (col 1 3 ∷ []) (codes "size" ∷ []))
+  pub list : Means schema content_list (selects schema contents_table [] (col 1 0 ∷ []) (codes "id" ∷ []))
 
 pub record KnowsPlaceTexts (schema : Schema) (stands : Stands schema places_table) : Type 0 where
   pub add : Means schema place_add (Insert stands.at (Values place_add_terms 5))

@@ -3,8 +3,8 @@ ghost use Rattle.std.specs.Prelude.{◌≡◌, ◌∷◌, ◌++◌, [], map, fil
 ghost use Rattle.std.specs.List.Sorted.{IsPermutation};
 ghost use Rattle.sqlite.specs.State.{HasCleanDisk, IsUnchanged, KeepsCommit, Survives};
 ghost use Rattle.sqlite.specs.Held.{state};
-ghost use Rattle.store_contents.specs.Contents.{HoldsContents};
-ghost use Rattle.store_contents.specs.Linked.{is_linked, id_shown, ids_of};
+ghost use Rattle.store_contents.specs.Layouts.{Holds, Layout};
+ghost use Rattle.store_contents.specs.Linked.{is_linked, id_shown, ids_in};
 ghost use Rattle.store_contents.specs.Read.{IsRead};
 
 use crate::content_id::ContentId;
@@ -64,7 +64,8 @@ fn all_lacking(
     }
 }
 
-/// The ids of the contents that are not in the set, each once, in any order. Nothing changes.
+/// The ids of the contents that are not in the set, each once, in any order, wherever their bytes are.
+/// Nothing changes.
 ///
 /// After a fault the caller gives the transaction up, and the tables are those from before it.
 pub fn unlinked<S: Alter>(
@@ -72,17 +73,17 @@ pub fn unlinked<S: Alter>(
     tx: &mut Transaction<'_, S>,
     linked: &BTreeSet<ContentId>,
 ) -> Result<Vec<ContentId>, Fault>
-    ensures ids { HasCleanDisk (state S.Store tx.new.conn.now)
-        → HoldsContents (state S.Store tx.old.conn.now).now
+    ensures ids { (l : Layout) → HasCleanDisk (state S.Store tx.new.conn.now)
+        → Holds l (state S.Store tx.old.conn.now).now
         → IfOk result
         (λ ids. IsPermutation
-        (filter (λ id. not (is_linked linked.now id)) (ids_of (state S.Store tx.old.conn.now).now))
+        (filter (λ id. not (is_linked linked.now id)) (ids_in l (state S.Store tx.old.conn.now).now))
         ids.items) }
-    ensures same { HasCleanDisk (state S.Store tx.new.conn.now)
-        → HoldsContents (state S.Store tx.old.conn.now).now
+    ensures same { (l : Layout) → HasCleanDisk (state S.Store tx.new.conn.now)
+        → Holds l (state S.Store tx.old.conn.now).now
         → OnOk result (IsUnchanged (state S.Store tx.old.conn.now) (state S.Store tx.new.conn.now)) }
-    ensures kept { HasCleanDisk (state S.Store tx.new.conn.now)
-        → HoldsContents (state S.Store tx.old.conn.now).now
+    ensures kept { (l : Layout) → HasCleanDisk (state S.Store tx.new.conn.now)
+        → Holds l (state S.Store tx.old.conn.now).now
         → KeepsCommit (state S.Store tx.old.conn.now) (state S.Store tx.new.conn.now) }
     ensures same_reference { tx.new.conn.ghost_name ≡ tx.old.conn.ghost_name }
     ensures survives { Survives (state S.Store tx.old.conn.now) (state S.Store tx.new.conn.now) (λ _. ⊥) }

@@ -1,5 +1,5 @@
 -- A manifest comes under the key of an old row, and the row goes: it is moved.
-use Rattle.std.proofs.Common.{◌≡◌, ◌∙◌, ℤ, List, length, None, Some, Ok, Err, Result, OnOk, refl, sym, ap, subst}
+use Rattle.std.proofs.Common.{◌≡◌, ◌∙◌, ℤ, List, [], length, None, Some, Ok, Err, Result, OnOk, refl, sym, ap, subst}
 use Rattle.std.specs.Prelude.{find, option_map, Option}
 use Rattle.sqlite.specs.Order.{Row}
 use Rattle.sqlite.specs.Effect.{Database}
@@ -29,14 +29,14 @@ use Rattle.store_migration.proofs.Underway.{olds_kept, ready_read, some_of, none
 
 -- ---- the manifest comes
 
-manifest_fresh : (old mid : Tables) (name digest bytes : Text) (id : ℤ) → ContentKept old mid id bytes → find (has_key name digest) old.manifests ≡ None → find (has_key name digest) mid.manifests ≡ None
+manifest_fresh : (old mid : Tables) (name digest bytes : Text) (id : ℤ) → ContentKept old mid id bytes [] → find (has_key name digest) old.manifests ≡ None → find (has_key name digest) mid.manifests ≡ None
 manifest_fresh old mid name digest bytes id kept fresh = ap (λ (t : Tables). find (has_key name digest) t.manifests) kept.others ∙ fresh
 
 -- the columns by what the bytes read as
 abbrev read_columns : Text → Text → Text → ℤ → Row
 read_columns name digest bytes id = manifest_columns name digest (length bytes) (kind_in bytes) (subject_or_none (manifest_in bytes)) id
 
-stored : (old mid new : Tables) (id : ℤ) (name digest bytes : Text) → ContentKept old mid id bytes → mid.places ≡ old.places → Comes mid.manifests new.manifests (read_columns name digest bytes id) → new ≡ record mid { manifests = new.manifests } → ManifestStored old new name digest bytes
+stored : (old mid new : Tables) (id : ℤ) (name digest bytes : Text) → ContentKept old mid id bytes [] → mid.places ≡ old.places → Comes mid.manifests new.manifests (read_columns name digest bytes id) → new ≡ record mid { manifests = new.manifests } → ManifestStored old new name digest bytes
 stored old mid new id name digest bytes kept placed comes others =
     let same : new.contents ≡ mid.contents = ap (λ (t : Tables). t.contents) others in
     record {
@@ -47,7 +47,7 @@ stored old mid new id name digest bytes kept placed comes others =
       others = others ∙ ap (λ (t : Tables). record t { manifests = new.manifests }) kept.others ∙ (λ i. record old { contents = sym same i; places = placed i; manifests = new.manifests });
     }
 
-came : (old mid new : State) (id : ℤ) (name digest bytes : Text) (kind : Kind) (subject : Option Text) → kind ≡ kind_in bytes → subject ≡ subject_or_none (manifest_in bytes) → ContentKept (held InTables old) (held InTables mid) id bytes
+came : (old mid new : State) (id : ℤ) (name digest bytes : Text) (kind : Kind) (subject : Option Text) → kind ≡ kind_in bytes → subject ≡ subject_or_none (manifest_in bytes) → ContentKept (held InTables old) (held InTables mid) id bytes []
     → ManifestComes InTables mid new (manifest_columns name digest (length bytes) kind subject id) → ManifestStored (held InTables old) (held InTables new) name digest bytes
 came old mid new id name digest bytes kind subject k s kept h =
     let columns : manifest_columns name digest (length bytes) kind subject id ≡ read_columns name digest bytes id = λ i. manifest_columns name digest (length bytes) (k i) (s i) id in
@@ -63,7 +63,7 @@ free : (t : Tables) (name digest bytes : Text) → IsUnderway t → Found t name
 free t name digest bytes under found = (manifest_free (old_of t) t name digest under.both (some_of (λ r. bytes_at r 6) (find (has_key name digest) (old_of t).manifests) bytes found)).1
 
 -- so a row of its key can come, once its content is kept
-pub free_after : (t m : Tables) (name digest bytes : Text) (id : ℤ) → IsUnderway t → Found t name digest bytes → ContentKept t m id bytes → find (has_key name digest) m.manifests ≡ None
+pub free_after : (t m : Tables) (name digest bytes : Text) (id : ℤ) → IsUnderway t → Found t name digest bytes → ContentKept t m id bytes [] → find (has_key name digest) m.manifests ≡ None
 free_after t m name digest bytes id under found kept = manifest_fresh t m name digest bytes id kept (free t name digest bytes under found)
 
 olds_after : (t w : Tables) (name digest bytes : Text) → IsUnderway t → ManifestStored t w name digest bytes → HasOlds w
@@ -109,7 +109,7 @@ moved_if old mid new name digest bytes (Err e) under found s h = tt
 
 -- its content is kept, it comes, and the row goes
 pub moved_then : {A E : Type 0} (old mid late new : State) (id : ℤ) (name digest bytes : Text) (kind : Kind) (subject : Option Text) (r : Result A E) → kind ≡ kind_in bytes → subject ≡ subject_or_none (manifest_in bytes) → IsUnderway (held InTables old) → Found (held InTables old) name digest bytes
-    → ContentKept (held InTables old) (held InTables mid) id bytes → ManifestComes InTables mid late (manifest_columns name digest (length bytes) kind subject id)
+    → ContentKept (held InTables old) (held InTables mid) id bytes [] → ManifestComes InTables mid late (manifest_columns name digest (length bytes) kind subject id)
     → (IsReady InTables late → HasOlds (held InTables late) → OnOk r (Becomes InTables new (with_olds (held InTables late) (without_manifest name digest (old_of (held InTables late)))))) → OnOk r (IsReady InTables new × Moves (without_manifest name digest) (held InTables old) (held InTables new))
 moved_then old mid late new id name digest bytes kind subject r k sub under found kept comes take =
     let s : ManifestStored (held InTables old) (held InTables late) name digest bytes = came old mid late id name digest bytes kind subject k sub kept comes in

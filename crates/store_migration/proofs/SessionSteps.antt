@@ -11,6 +11,7 @@ use Rattle.store_statements.specs.Keys.{of_session, has_start, same_session}
 use Rattle.store_statements.specs.Tables.{Tables}
 use Rattle.store_statements.specs.Registry.{Reach}
 use Rattle.store_statements.specs.Changes.{changed, with_size, upload_columns, piece_columns, Comes, Grow}
+use Rattle.store_statements.proofs.PlacesKept.{runs_then}
 use Rattle.store_statements.proofs.Kept.{rows_without}
 use Rattle.store_statements.proofs.PieceWorlds.{piece_fresh}
 use Rattle.store_statements.proofs.SessionRows.{no_pieces}
@@ -28,10 +29,10 @@ use Rattle.store_migration.proofs.Underway.{olds_kept, ready_read, some_of, none
 
 -- ---- its piece comes
 
-pub start_fresh : (old mid : Tables) (name : Text) (number : ℕ) (bytes : Text) (id : ℤ) → ContentKept old mid id bytes → find (has_start name number 0) old.pieces ≡ None → find (has_start name number 0) mid.pieces ≡ None
+pub start_fresh : (old mid : Tables) (name : Text) (number : ℕ) (bytes : Text) (id : ℤ) → ContentKept old mid id bytes [] → find (has_start name number 0) old.pieces ≡ None → find (has_start name number 0) mid.pieces ≡ None
 start_fresh old mid name number bytes id kept fresh = ap (λ (t : Tables). find (has_start name number 0) t.pieces) kept.others ∙ fresh
 
-pieced : (old mid new : Tables) (id : ℤ) (name : Text) (number : ℕ) (bytes : Text) → ContentKept old mid id bytes → Comes mid.pieces new.pieces (piece_columns name number 0 (length bytes) id) → new ≡ record mid { pieces = new.pieces } → PieceStored old new name number 0 bytes
+pieced : (old mid new : Tables) (id : ℤ) (name : Text) (number : ℕ) (bytes : Text) → ContentKept old mid id bytes [] → Comes mid.pieces new.pieces (piece_columns name number 0 (length bytes) id) → new ≡ record mid { pieces = new.pieces } → PieceStored old new name number 0 bytes []
 pieced old mid new id name number bytes kept comes others =
     let same : new.contents ≡ mid.contents = ap (λ (t : Tables). t.contents) others in
     let placed : new.places ≡ mid.places = ap (λ (t : Tables). t.places) others in
@@ -39,12 +40,14 @@ pieced old mid new id name number bytes kept comes others =
       id = id;
       grow = subst (Grow old.contents) (sym same) kept.grow;
       there = ap (λ contents. contents id) same ∙ kept.there;
+      rest = λ i other. ap (λ contents. contents i) same ∙ kept.rest i other;
+      placed = runs_then [] old mid new kept.placed placed (ap (λ (t : Tables). t.packs) others);
       comes = subst (λ rows. Comes rows new.pieces (piece_columns name number 0 (length bytes) id)) (ap (λ (t : Tables). t.pieces) kept.others) comes;
       others = others ∙ ap (λ (t : Tables). record t { pieces = new.pieces }) kept.others ∙ (λ i. record old { contents = sym same i; places = sym placed i; pieces = new.pieces });
     }
 
-pub pieced_if : {A E : Type 0} (old mid new : State) (id : ℤ) (name : Text) (number : ℕ) (bytes : Text) (r : Result A E) → ContentKept (held InTables old) (held InTables mid) id bytes → OnOk r (PieceComes InTables mid new (piece_columns name number 0 (length bytes) id))
-    → OnOk r (IsReady InTables new × PieceStored (held InTables old) (held InTables new) name number 0 bytes)
+pub pieced_if : {A E : Type 0} (old mid new : State) (id : ℤ) (name : Text) (number : ℕ) (bytes : Text) (r : Result A E) → ContentKept (held InTables old) (held InTables mid) id bytes [] → OnOk r (PieceComes InTables mid new (piece_columns name number 0 (length bytes) id))
+    → OnOk r (IsReady InTables new × PieceStored (held InTables old) (held InTables new) name number 0 bytes [])
 pieced_if old mid new id name number bytes (Ok x) kept h = (h.ready, pieced (held InTables old) (held InTables mid) (held InTables new) id name number bytes kept h.comes h.others)
 pieced_if old mid new id name number bytes (Err e) kept h = tt
 
@@ -55,9 +58,9 @@ sized name number bytes t = uploads_changed (of_session name number) (with_size 
 pub sized_fresh : (t u : Tables) (name : Text) (number : ℕ) (bytes : Text) → u ≡ sized name number bytes t → find (has_start name number 0) t.pieces ≡ None → find (has_start name number 0) u.pieces ≡ None
 sized_fresh t u name number bytes e fresh = ap (λ (x : Tables). find (has_start name number 0) x.pieces) e ∙ fresh
 
-pub sized_if : {A E : Type 0} (mid new : State) (t : Tables) (name : Text) (number : ℕ) (bytes : Text) (r : Result A E) → held InTables mid ≡ sized name number bytes t → OnOk r (IsReady InTables new × PieceStored (held InTables mid) (held InTables new) name number 0 bytes)
-    → OnOk r (IsReady InTables new × PieceStored (sized name number bytes t) (held InTables new) name number 0 bytes)
-sized_if mid new t name number bytes (Ok x) e h = (h.0, subst (λ (s : Tables). PieceStored s (held InTables new) name number 0 bytes) e h.1)
+pub sized_if : {A E : Type 0} (mid new : State) (t : Tables) (name : Text) (number : ℕ) (bytes : Text) (r : Result A E) → held InTables mid ≡ sized name number bytes t → OnOk r (IsReady InTables new × PieceStored (held InTables mid) (held InTables new) name number 0 bytes [])
+    → OnOk r (IsReady InTables new × PieceStored (sized name number bytes t) (held InTables new) name number 0 bytes [])
+sized_if mid new t name number bytes (Ok x) e h = (h.0, subst (λ (s : Tables). PieceStored s (held InTables new) name number 0 bytes []) e h.1)
 sized_if mid new t name number bytes (Err x) e h = tt
 
 -- ---- whether there are bytes
@@ -90,7 +93,7 @@ stored_empty old new name number bytes none h = (
   },
 )
 
-filled_of : (t m u : Tables) (name : Text) (number : ℕ) (bytes : Text) → 0 < length bytes → m ≡ record t { uploads = m.uploads } → PieceStored (sized name number bytes m) u name number 0 bytes → u.places ≡ t.places → Filled t u name number bytes m.uploads
+filled_of : (t m u : Tables) (name : Text) (number : ℕ) (bytes : Text) → 0 < length bytes → m ≡ record t { uploads = m.uploads } → PieceStored (sized name number bytes m) u name number 0 bytes [] → u.places ≡ t.places → Filled t u name number bytes m.uploads
 filled_of t m u name number bytes more e s placed =
     let b : u.beside ≡ t.beside = ap (λ (x : Tables). x.beside) s.others ∙ ap (λ (x : Tables). x.beside) e in
     record {
@@ -104,7 +107,7 @@ filled_of t m u name number bytes more e s placed =
     }
 
 -- or gets its bytes
-pub stored_filled : {A E : Type 0} (old mid new : State) (name : Text) (number : ℕ) (bytes : Text) (r : Result A E) → 0 < length bytes → UploadComes InTables old mid (upload_columns name number) → OnOk r (IsReady InTables new × PieceStored (sized name number bytes (held InTables mid)) (held InTables new) name number 0 bytes)
+pub stored_filled : {A E : Type 0} (old mid new : State) (name : Text) (number : ℕ) (bytes : Text) (r : Result A E) → 0 < length bytes → UploadComes InTables old mid (upload_columns name number) → OnOk r (IsReady InTables new × PieceStored (sized name number bytes (held InTables mid)) (held InTables new) name number 0 bytes [])
     → OnOk r (IsReady InTables new × SessionStored (held InTables old) (held InTables new) name number bytes)
 stored_filled old mid new name number bytes (Ok x) more h s = (
   s.0,

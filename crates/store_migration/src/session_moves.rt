@@ -1,5 +1,5 @@
 //! Upload sessions are moved.
-ghost use Rattle.std.specs.Prelude.{◌≡◌, ◌<◌, ◌^◌, length, find, option_map, None, Some, OnOk, IfOk};
+ghost use Rattle.std.specs.Prelude.{◌≡◌, ◌<◌, ◌^◌, [], length, find, option_map, None, Some, OnOk, IfOk};
 ghost use Rattle.sqlite.specs.State.{HasCleanDisk, KeepsCommit};
 ghost use Rattle.sqlite.specs.Held.{state};
 ghost use Rattle.store_schema.specs.Rows.{bytes_at};
@@ -40,7 +40,7 @@ fn fill<S: Alter>(
         (IsReady InTables (state S.Store tx.new.conn.now) × PieceStored
         (uploads_changed (of_session repo.now number) (with_size (length bytes.now))
         (held InTables (state S.Store tx.old.conn.now)))
-        (held InTables (state S.Store tx.new.conn.now)) repo.now number 0 bytes.now) }
+        (held InTables (state S.Store tx.new.conn.now)) repo.now number 0 bytes.now []) }
     ensures kept { KeepsInside S.Store InTables tx.old.conn.now tx.new.conn.now }
     ensures same_reference { tx.new.conn.ghost_name ≡ tx.old.conn.ghost_name }
     ensures survives { LastsUncommitted S.Store tx.old.conn.now tx.new.conn.now }

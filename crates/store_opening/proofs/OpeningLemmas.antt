@@ -45,7 +45,7 @@ use Rattle.std.specs.Prelude.{filter}
 use Rattle.std.specs.List.{position_from}
 
 -- the place of one that passes is found, or an earlier one
-has_position : (test : Table → Bool) (from at : ℕ) (tables : List Table) (t : Table) → slice_get tables at ≡ Some t → test t ≡ true → is_some (position_from test from tables) ≡ true
+pub has_position : (test : Table → Bool) (from at : ℕ) (tables : List Table) (t : Table) → slice_get tables at ≡ Some t → test t ≡ true → is_some (position_from test from tables) ≡ true
 has_position test from at [] t is passes = absurd (let x = is in cc)
 has_position test from zero (x ∷ tables) t is passes =
     let same : x ≡ t = (let e = is in cc) in

@@ -23,7 +23,7 @@ pub enum OpenFault {
     Memory,
     /// The database failed.
     Storage,
-    /// The tables are of another schema than 2.
+    /// The tables are of another schema than the one that is asked for.
     Schema(i64),
     /// There are tables of these names that are not a registry's.
     NotARegistry,

@@ -10,7 +10,7 @@ use Rattle.oci_types.specs.declared.fault.Fault.{Fault}
 use Rattle.oci_types.specs.declared.fault.Fault.TheVariants.{Memory, Storage}
 use Rattle.registry_pack.specs.Standing.{KeepsElsewhere}
 use Rattle.store_pack.specs.Commits.{IsSettled, Stays, Outcomes, with_trees}
-use Rattle.store_pack.specs.Pack.{PutsPack}
+use Rattle.store_pack.specs.Pack.{MayPutPack, PutsPack}
 use Rattle.store_contents.specs.Places.{bytes_in, content_rows, joined, place_rows, places_of, runs_of}
 use Rattle.store_pack.specs.Joint.{AreKept, IsJoint, IsSame, IsFree, CrashesInto}
 use Rattle.store_pack.proofs.JointLemmas.{joint_written, same_world}
@@ -59,3 +59,11 @@ joint_by g old new was is kept joint free (Err Storage) memory lives failed = ab
 pub wanting : (fault : Fault) (P : Type 0) → (fault ≡ Memory → P) → (◌≡◌ {A = Result ⊤ Fault} (Err fault) (Err Storage) → ⊥) → P
 wanting Memory P so lives = so refl
 wanting Storage P so lives = absurd (lives refl)
+
+-- ---- the rows say the age, which is this
+
+pub raised_by : (old new : State) (mark : List ℕ) (age other : ℕ) → age ≡ other → IsSettled new × PutsPack old.now new.now mark age → IsSettled new × MayPutPack old.now new.now mark other
+raised_by old new mark age other same put = (put.0, inr (subst (λ n. PutsPack old.now new.now mark n) same put.1))
+
+pub outcomes_at : (old new : State) (mark : List ℕ) (age other : ℕ) → age ≡ other → Outcomes (λ a b (v : ⊤). PutsPack a b mark age) old new → Outcomes (λ a b (v : ⊤). PutsPack a b mark other) old new
+outcomes_at old new mark age other same outcomes = subst (λ n. Outcomes (λ a b (v : ⊤). PutsPack a b mark n) old new) same outcomes

@@ -1,5 +1,5 @@
 -- The bytes of a file at the extents that were read.
-use Rattle.std.proofs.Common.{◌≡◌, ◌∙◌, ◌+◌, ◌++◌, ℕ, ℤ, List, [], ◌∷◌, slice_range, None, Some, sym, ap, refl}
+use Rattle.std.proofs.Common.{◌≡◌, ◌∙◌, ◌+◌, ◌++◌, ℕ, ℤ, List, [], ◌∷◌, slice_range, None, Some, sym, ap, subst, refl}
 use Rattle.std.specs.Prelude.{Option, find, is_some, option_map, IsTrue}
 use Rattle.std.proofs.lemmas.List.{map-append}
 use Rattle.sqlite.specs.Order.{Row}
@@ -7,9 +7,10 @@ use Rattle.sqlite.specs.Tree.{has_rowid}
 use Rattle.sqlite.specs.Effect.{Database}
 use Rattle.store_schema.specs.Rows.{natural_at}
 use Rattle.registry_pack.specs.declared.extent.Extent.{Extent}
-use Rattle.registry_pack.specs.Extents.{bytes_at}
+use Rattle.registry_pack.specs.Extents.{AreWithin, bytes_at}
 use Rattle.store_contents.specs.Places.{bytes_in, bytes_of, content_rows, joined, place_rows, places_of, runs_of}
 use Rattle.store_places.specs.Places.{has_content, runs_at}
+use Rattle.store_pack.specs.Opening.{AreThere}
 
 pub runs_more : (es : List Extent) (e : Extent) → runs_at (es ++ e ∷ []) ≡ runs_at es ++ (e.at, e.size) ∷ []
 runs_more es e = map-append (λ (x : Extent). (x.at, x.size)) es (e ∷ [])
@@ -31,3 +32,11 @@ extents_have db file id es there e = by (find (has_rowid id) (content_rows db)) 
     by : (o : Option Row) → IsTrue (is_some o) → option_map (λ _. joined file (places_of (place_rows db) id)) o ≡ Some (joined file (places_of (place_rows db) id))
     by None there = absurd (let x = there in cc)
     by (Some r) there = refl
+
+-- extents that are places of a file that is as long as these say
+pub extents_there : (file : List ℕ) (es : List Extent) (runs : List (ℕ × ℕ)) → runs_at es ≡ runs → AreThere file runs → AreWithin file es
+extents_there file es runs is there = within es (subst (AreThere file) (sym is) there)
+  where
+    within : (xs : List Extent) → AreThere file (runs_at xs) → AreWithin file xs
+    within [] all = tt
+    within (x ∷ xs) all = (all.0, within xs all.1)

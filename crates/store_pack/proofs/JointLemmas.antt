@@ -10,10 +10,7 @@ use Rattle.sqlite.specs.Effect.{Database}
 use Rattle.sqlite.specs.State.{State}
 use Rattle.sqlite_disk.specs.declared.Disk.{Ghosts}
 use Rattle.sqlite_disk.specs.Disk.{Holds}
-use Rattle.sqlite_keyed.specs.Lists.{sort_by}
-use Rattle.sqlite_keyed.proofs.SortLemmas.{IsPermutation-sort_by}
 use Rattle.sqlite_trees.proofs.ListLemmas.{all-filter, all-permutation}
-use Rattle.store_schema.specs.Rows.{natural_at}
 use Rattle.registry_pack.specs.declared.extent.Extent.{Extent}
 use Rattle.registry_pack.specs.Extents.{AreApart, AreWithin, bytes_at}
 use Rattle.registry_pack.specs.Heads.{head_bytes, offset_of}
@@ -23,10 +20,10 @@ use Rattle.oci_types.specs.declared.fault.Fault.{Fault}
 use Rattle.oci_types.specs.declared.fault.Fault.TheVariants.{Memory, Storage}
 use Rattle.store_contents.specs.declared.content_id.ContentId.{ContentId}
 use Rattle.store_pack.specs.Commits.{IsSettled, Stays, Becomes, Outcomes, with_trees}
-use Rattle.store_contents.specs.Places.{by_start, of_content, places_of, joined, bytes_of, bytes_in, runs_of, content_rows, place_rows}
+use Rattle.store_contents.specs.Places.{of_content, places_of, joined, bytes_of, bytes_in, runs_of, content_rows, place_rows}
 use Rattle.store_places.specs.Places.{Adds, Removes, runs_at}
 use Rattle.store_pack.specs.Joint.{IsKept, AreKept, IsJoint, IsSame, HasMore, HasLess, CrashesInto, IsDurable, IsFree, Older, IsRefused, AreAged, AreAside}
-use Rattle.store_places.proofs.Sorting.{starts_total}
+use Rattle.store_bytes.proofs.KeepingLemmas.{run_of, runs_of_content}
 
 -- what holds of each place holds of what it names, and the other way round
 all_mapped : {A B : Type 0} (P : B → Type 0) (f : A → B) (xs : List A) → AllByRecursion (λ x. P (f x)) xs → AllByRecursion P (map f xs)
@@ -41,9 +38,6 @@ all_both : {A : Type 0} (P : A → Type 0) (xs ys : List A) → AllByRecursion P
 all_both P [] ys h k = k
 all_both P (x ∷ xs) ys h k = (h.0, all_both P xs ys h.1 k)
 
-abbrev run_of : Row → ℕ × ℕ
-run_of r = (natural_at r 4, natural_at r 3)
-
 -- ---- what is kept has its bytes in each outcome
 
 module _ {D : Type 0} (g : Ghosts D) where
@@ -51,7 +45,7 @@ module _ {D : Type 0} (g : Ghosts D) where
   run_same file c may run it =
       range_is c (slice_range (g.seen file) run.0 (run.0 + run.1)) run.0 run.1 (length-range (g.seen file) run.0 run.1 it.within) (it.lasts.after c may)
 
-  joined_same : (file : D) (c : List ℕ) → g.may_leave file c → (rows : List Row) → AreKept g file (runs_of rows) → joined c rows ≡ joined (g.seen file) rows
+  pub joined_same : (file : D) (c : List ℕ) → g.may_leave file c → (rows : List Row) → AreKept g file (runs_of rows) → joined c rows ≡ joined (g.seen file) rows
   joined_same file c may [] all = refl
   joined_same file c may (r ∷ rs) all = ap (λ (l : List ℕ). l ++ joined c rs) (run_same file c may (run_of r) all.0) ∙ ap (λ l. bytes_of (g.seen file) r ++ l) (joined_same file c may rs all.1)
 
@@ -62,11 +56,7 @@ module _ {D : Type 0} (g : Ghosts D) where
 
   -- the places of a content are among all
   kept_of : (file : D) (rows : List Row) (id : ℤ) → AreKept g file (runs_of rows) → AreKept g file (runs_of (places_of rows id))
-  kept_of file rows id all =
-      let P : Row → Type 0 = λ r. IsKept g file (run_of r) in
-      let some = filter (of_content id) rows in
-      all_mapped (IsKept g file) run_of (sort_by by_start some)
-      (all-permutation P some (sort_by by_start some) (IsPermutation-sym _ _ (IsPermutation-sort_by by_start starts_total some)) (all-filter P (of_content id) rows (all_from_mapped (IsKept g file) run_of rows all)))
+  kept_of file rows id all = runs_of_content (IsKept g file) rows id all
 
   -- THE BYTES of all contents are in each outcome of the file what they are now
   pub same_world : (file : D) (seen : List ℕ) (db : Database) (c : List ℕ) → g.seen file ≡ seen → g.may_leave file c → AreKept g file (runs_of (place_rows db)) → IsSame (bytes_in db c) (bytes_in db seen)
@@ -75,7 +65,7 @@ module _ {D : Type 0} (g : Ghosts D) where
 
   -- ---- a call that changes nothing of the file
 
-  run_kept : (old new : D) → KeepsAll g old new → (run : ℕ × ℕ) → IsKept g old run → IsKept g new run
+  pub run_kept : (old new : D) → KeepsAll g old new → (run : ℕ × ℕ) → IsKept g old run → IsKept g new run
   run_kept old new kept run it = record {
     within = rw kept.seen it.within;
     lasts = record { now = rw kept.seen it.lasts.now; after = λ c may. rw kept.seen (it.lasts.after c (kept.crash c may)) };
@@ -169,10 +159,10 @@ module _ {D : Type 0} (g : Ghosts D) where
   -- ---- bytes that are written where nothing is kept
 
   module _ (old new : D) (at n : ℕ) (kept : KeepsElsewhere g at n old new) where
-    run_lasting : (run : ℕ × ℕ) → IsKept g old run → AreApart at n run.0 run.1 → Lasts g new run.0 (slice_range (g.seen old) run.0 (run.0 + run.1))
+    pub run_lasting : (run : ℕ × ℕ) → IsKept g old run → AreApart at n run.0 run.1 → Lasts g new run.0 (slice_range (g.seen old) run.0 (run.0 + run.1))
     run_lasting run it apart = kept.lasts run.0 (slice_range (g.seen old) run.0 (run.0 + run.1)) (subst (AreApart at n run.0) (sym (length-range (g.seen old) run.0 run.1 it.within)) apart) it.lasts
 
-    run_still : (run : ℕ × ℕ) → IsKept g old run → AreApart at n run.0 run.1 → slice_range (g.seen new) run.0 (run.0 + run.1) ≡ slice_range (g.seen old) run.0 (run.0 + run.1)
+    pub run_still : (run : ℕ × ℕ) → IsKept g old run → AreApart at n run.0 run.1 → slice_range (g.seen new) run.0 (run.0 + run.1) ≡ slice_range (g.seen old) run.0 (run.0 + run.1)
     run_still run it apart = range_is (g.seen new) (slice_range (g.seen old) run.0 (run.0 + run.1)) run.0 run.1 (length-range (g.seen old) run.0 run.1 it.within) (run_lasting run it apart).now
 
     pub runs_still : (runs : List (ℕ × ℕ)) → AreKept g old runs → IsFree at n runs → AreKept g new runs
@@ -187,11 +177,7 @@ module _ {D : Type 0} (g : Ghosts D) where
     joined_still (r ∷ rs) all free = ap (λ (l : List ℕ). l ++ joined (g.seen new) rs) (run_still (run_of r) all.0 free.0) ∙ ap (λ l. bytes_of (g.seen old) r ++ l) (joined_still rs all.1 free.1)
 
     free_of : (rows : List Row) (id : ℤ) → IsFree at n (runs_of rows) → IsFree at n (runs_of (places_of rows id))
-    free_of rows id all =
-        let P : Row → Type 0 = λ r. AreApart at n (natural_at r 4) (natural_at r 3) in
-        let some = filter (of_content id) rows in
-        all_mapped (λ (run : ℕ × ℕ). AreApart at n run.0 run.1) run_of (sort_by by_start some)
-        (all-permutation P some (sort_by by_start some) (IsPermutation-sym _ _ (IsPermutation-sort_by by_start starts_total some)) (all-filter P (of_content id) rows (all_from_mapped (λ (run : ℕ × ℕ). AreApart at n run.0 run.1) run_of rows all)))
+    free_of rows id all = runs_of_content (λ (run : ℕ × ℕ). AreApart at n run.0 run.1) rows id all
 
     pub joint_written : (s : State) → IsJoint s g old → IsFree at n (runs_of (place_rows s.now)) → IsJoint s g new × IsSame (bytes_in s.now (g.seen new)) (bytes_in s.now (g.seen old))
     joint_written s joint free = (
@@ -207,7 +193,7 @@ module _ {D : Type 0} (g : Ghosts D) where
         by o (inl it) = inl (record { copy = it.0.copy; head = it.0.head; lasts = kept.lasts (offset_of it.0.copy) (head_bytes it.0.head) it.1 it.0.lasts; higher = it.0.higher })
         by o (inr it) = inr (runs_still o.1 it.0 it.1)
 
-  refused_kept : (old new : D) → KeepsAll g old new → (o : Older) → IsRefused g old o → IsRefused g new o
+  pub refused_kept : (old new : D) → KeepsAll g old new → (o : Older) → IsRefused g old o → IsRefused g new o
   refused_kept old new kept o it =
       record { copy = it.copy; head = it.head; lasts = record { now = rw kept.seen it.lasts.now; after = λ c may. it.lasts.after c (kept.crash c may) }; higher = it.higher }
 

@@ -8,3 +8,6 @@ pub mod PackLemmas
 pub mod KnownTables
 pub mod OpeningLemmas
 pub mod AgeLemmas
+pub mod ContentsLemmas
+pub mod AgedRows
+pub mod ReuseLemmas

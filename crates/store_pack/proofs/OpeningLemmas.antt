@@ -29,7 +29,7 @@ there_at file (e ∷ es) within = (within.0, there_at file es within.1)
 pub all_there : (file : List ℕ) (rows : List Row) (es : List Extent) → IsPermutation (runs_of rows) (runs_at es) → AreWithin file es → AreThere file (runs_of rows)
 all_there file rows es same within = all-permutation _ (runs_at es) (runs_of rows) (IsPermutation-sym _ _ same) (there_at file es within)
 
-in_blocks : (e : Extent) (p : ℕ) → 8192 ≤ p → e.at ≤ p → p < e.at + e.size → IsInBlocks e p
+pub in_blocks : (e : Extent) (p : ℕ) → 8192 ≤ p → e.at ≤ p → p < e.at + e.size → IsInBlocks e p
 in_blocks e p behind low high = (behind, omega (arith, floor_down e.at), omega (arith, ceil_up (e.at + e.size)))
 
 module _ {D : Type 0} {g : Ghosts D} (pack : Pack D g) (file : List ℕ) (all : List Extent) (end : end_of pack ≡ block_ceil (max (length file) 8192))

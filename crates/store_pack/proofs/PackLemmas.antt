@@ -126,6 +126,7 @@ module _ (old new : State) (mark : List ℕ) (age n : ℕ) (is : HoldsPlaces old
           contents = all.0;
           places = all.1;
           others = keeps;
+          holds = all.2;
         },
         all.2,
       )
@@ -171,6 +172,7 @@ module _ (old new : State) (mark : List ℕ) (was age n : ℕ) (is : HoldsPlaces
           contents = all.0;
           places = all.1;
           others = keeps;
+          holds = all.2;
         },
         all.2,
       )

@@ -4,3 +4,6 @@ pub mod Reads
 pub mod Pack
 pub mod Opening
 pub mod Content
+pub mod Contents
+pub mod Lasting
+pub mod Reuse

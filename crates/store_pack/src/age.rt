@@ -2,10 +2,13 @@
 ghost use Rattle.std.specs.Prelude.{◌≡◌, ◌⊎◌, ◌↔◌, ◌+◌, ◌<◌, ◌≤◌, ◌^◌, ℕ, List, Err, IfOk, IsTrue, OnErr, OnOk, ⊤};
 ghost use Rattle.sqlite.specs.State.{HasCleanDisk};
 ghost use Rattle.sqlite.specs.Held.{state};
-ghost use Rattle.registry_pack.specs.Pack.{file_of, mark_of, age_of, IsWritable, IsRetired, KeepsSpace};
+ghost use Rattle.registry_pack.specs.Heads.{AreLasting};
+ghost use Rattle.registry_pack.specs.Pack.{file_of, head_of, mark_of, age_of, IsWritable, IsRetired, KeepsSpace};
 ghost use Rattle.registry_pack.specs.Standing.{KeepsElsewhere};
 ghost use Rattle.store_pack.specs.Commits.{IsSettled, Stays, Becomes, Outcomes};
-ghost use Rattle.store_pack.specs.Pack.{PackSays, PutsPack};
+ghost use Rattle.store_statements.specs.Clauses.{Lasts};
+ghost use Rattle.store_pack.specs.Pack.{MayPutPack, PackSays, PutsPack};
+ghost use Rattle.store_pack.specs.Reuse.{OneStands};
 ghost use Rattle.store_contents.specs.Places.{bytes_in, place_rows, runs_of};
 ghost use Rattle.store_pack.specs.Joint.{IsJoint, IsSame, IsFree, IsRefused, CrashesInto, Older};
 
@@ -34,6 +37,7 @@ fn set_rows<S: Alter>(conn: &mut Connection<S>, age: u64) -> Result<(), Fault>
         → (mark : List ℕ) (was : ℕ) → PackSays (state S.Store conn.old).now mark was
         → Outcomes (λ a b (v : ⊤). PutsPack a b mark age)
         (state S.Store conn.old) (state S.Store conn.new) }
+    ensures survives { Lasts S.Store conn.old conn.new }
 {
     match commit_age(conn, age) {
         Ok(()) => Ok(()),
@@ -64,15 +68,31 @@ pub fn raise_age<S: Alter, D: Disk>(
 ) -> Result<(), Fault>
     requires usable { IsTrue (D.Disk.is_usable (file_of pack.old)) }
     ensures rows { HasCleanDisk (state S.Store conn.new) → IsSettled (state S.Store conn.old)
-        → PackSays (state S.Store conn.old).now (mark_of pack.old) (age_of pack.old)
+        → (was : ℕ) → PackSays (state S.Store conn.old).now (mark_of pack.old) was
         → OnOk result
         (PutsPack (state S.Store conn.old).now (state S.Store conn.new).now (mark_of pack.new)
         (age_of pack.new)) }
+    ensures settled { HasCleanDisk (state S.Store conn.new) → IsSettled (state S.Store conn.old)
+        → (was : ℕ) → PackSays (state S.Store conn.old).now (mark_of pack.old) was
+        → (result ≡ Err Fault.Storage → ⊥)
+        → IsSettled (state S.Store conn.new) × MayPutPack (state S.Store conn.old).now
+        (state S.Store conn.new).now (mark_of pack.old) (age_of pack.old + 1) }
+    ensures outcomes { HasCleanDisk (state S.Store conn.new) → IsSettled (state S.Store conn.old)
+        → (was : ℕ) → PackSays (state S.Store conn.old).now (mark_of pack.old) was
+        → Outcomes (λ a b (v : ⊤). PutsPack a b (mark_of pack.old) (age_of pack.old + 1))
+        (state S.Store conn.old) (state S.Store conn.new) }
+    ensures survives { Lasts S.Store conn.old conn.new }
+    ensures mark { mark_of pack.new ≡ mark_of pack.old }
     ensures age { OnOk result (age_of pack.new ≡ age_of pack.old + 1) }
     ensures refused { OnOk result
         ((old : Older) → old.0 ≤ age_of pack.old → IsRefused D.Disk (file_of pack.new) old) }
+    ensures heads { OnOk result (AreLasting D.Disk (file_of pack.new) (head_of pack.new)) }
+    // The second copy stands as it was until the first one lasts.
+    ensures one_stands { OneStands D.Disk (file_of pack.old) (file_of pack.new) (age_of pack.old + 1) }
+    ensures memory { result ≡ Err Fault.Memory → file_of pack.new ≡ file_of pack.old }
     ensures writable { OnOk result
         ((p : ℕ) → IsWritable pack.new p ↔ (IsWritable pack.old p ⊎ IsRetired pack.old p)) }
+    ensures none_retired { OnOk result ((p : ℕ) → IsRetired pack.new p → ⊥) }
     ensures err { OnErr result (KeepsSpace pack.old pack.new) }
     ensures joint { HasCleanDisk (state S.Store conn.new)
         → IsJoint (state S.Store conn.old) D.Disk (file_of pack.old)

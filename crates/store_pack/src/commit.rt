@@ -4,6 +4,7 @@ ghost use Rattle.std.specs.List.{AllByRecursion};
 ghost use Rattle.sqlite.specs.State.{HasCleanDisk};
 ghost use Rattle.sqlite.specs.Held.{state};
 ghost use Rattle.registry_pack.specs.Extents.{size_of, total_of};
+ghost use Rattle.store_statements.specs.Clauses.{Lasts};
 ghost use Rattle.store_pack.specs.Commits.{IsSettled, IsBack, Becomes, Outcomes, Ends};
 ghost use Rattle.store_pack.specs.Pack.{PackSays, PutsPack};
 ghost use Rattle.store_places.specs.Places.{Adds, Removes};
@@ -87,6 +88,7 @@ pub(crate) fn commit_age<S: Alter>(conn: &mut Connection<S>, age: u64) -> Result
         → (mark : List ℕ) (was : ℕ) → PackSays (state S.Store conn.old).now mark was
         → Outcomes (λ a b (v : ⊤). PutsPack a b mark age)
         (state S.Store conn.old) (state S.Store conn.new) }
+    ensures survives { Lasts S.Store conn.old conn.new }
 {
     if !conn.is_autocommit() {
         return Err(Fault::Storage);

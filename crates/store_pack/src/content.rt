@@ -1,5 +1,5 @@
 //! The bytes of a content, read from the pack.
-ghost use Rattle.std.specs.Prelude.{◌≡◌, ◌<◌, ℕ, List, length, option_map, IsTrue, IfOk};
+ghost use Rattle.std.specs.Prelude.{◌≡◌, ◌<◌, List, length, option_map, IsTrue, IfOk};
 ghost use Rattle.sqlite.specs.State.{HasCleanDisk};
 ghost use Rattle.sqlite.specs.Held.{state};
 ghost use Rattle.registry_pack.specs.Extents.{AreWithin, bytes_at};
@@ -7,8 +7,9 @@ ghost use Rattle.registry_pack.specs.Pack.{file_of, KeepsSpace};
 ghost use Rattle.registry_pack.specs.Standing.{KeepsAll};
 ghost use Rattle.store_statements.specs.Clauses.{Lasts};
 ghost use Rattle.store_contents.specs.Layouts.{InPack, contents_in};
-ghost use Rattle.store_contents.specs.Places.{HoldsPlaces};
+ghost use Rattle.store_contents.specs.Places.{HoldsPlaces, place_rows, runs_of};
 ghost use Rattle.store_pack.specs.Content.{HasMoreOf};
+ghost use Rattle.store_pack.specs.Opening.{AreThere};
 ghost use Rattle.store_pack.specs.Reads.{ChangesNothing, Keeps, LastsUnchanged, StaysSettled};
 
 use crate::reading::extents_of;
@@ -21,18 +22,6 @@ use store_contents::ContentId;
 
 /// How many bytes are read at a time.
 const PIECE: usize = 65_536;
-
-/// Whether each of the extents ends within a file of this length.
-fn are_within(extents: &[Extent], len: usize) -> bool
-    ensures { IsTrue result → (file : List ℕ) → length file ≡ len → AreWithin file extents.now }
-{
-    for extent in extents {
-        if len < extent.at() + extent.size() {
-            return false;
-        }
-    }
-    true
-}
 
 /// Puts one piece more of the bytes at the extents behind those that were read before, and says how many they
 /// are: none where all have been read. `piece` is room for them.
@@ -84,7 +73,7 @@ fn read_pieces<D: Disk>(
     }
 }
 
-/// The same bytes. `Fault::Storage` where the file has fewer than the extents say.
+/// The same bytes, read in pieces of 65,536 bytes.
 fn read_extents<D: Disk>(
     alloc: Global,
     pack: &mut Pack<D>,
@@ -92,27 +81,22 @@ fn read_extents<D: Disk>(
 ) -> Result<Vec<u8>, Fault>
     requires usable { IsTrue (D.Disk.is_usable (file_of pack.old)) }
     ensures read { IfOk result (λ bytes. IsTrue (D.Disk.is_clean (file_of pack.new))
+        → AreWithin (D.Disk.seen (file_of pack.old)) extents.now
         → bytes.items ≡ bytes_at (D.Disk.seen (file_of pack.old)) extents.now) }
     ensures pack { KeepsAll D.Disk (file_of pack.old) (file_of pack.new) }
     ensures usable { IsTrue (D.Disk.is_usable (file_of pack.new)) }
     ensures space { KeepsSpace pack.old pack.new }
 {
-    let Ok(len) = pack.length() else {
-        return Err(Fault::Storage);
-    };
-    if !are_within(extents, len) {
-        return Err(Fault::Storage);
-    }
     let mut piece = [0; PIECE];
     read_pieces(alloc, pack, extents, &mut piece)
 }
 
 /// The bytes of the content, or `None` where there is no such content. They are read in pieces of 65,536
-/// bytes. Nothing changes.
+/// bytes. Nothing changes. The file is not asked for its length: that it is as long as the rows say is known
+/// of a pack that was opened by them, and a read that finds fewer bytes is `Fault::Storage`.
 ///
-/// `Fault::Storage` where the pack could not be read, or has fewer bytes than the rows say. After
-/// `Fault::Memory` connection and pack may be used again; after `Fault::Storage` the connection may have been
-/// shut.
+/// After `Fault::Memory` connection and pack may be used again; after `Fault::Storage` the connection may
+/// have been shut.
 pub fn read_content<S: Alter, D: Disk>(
     alloc: Global,
     conn: &mut Connection<S>,
@@ -122,6 +106,7 @@ pub fn read_content<S: Alter, D: Disk>(
     requires usable { IsTrue (D.Disk.is_usable (file_of pack.old)) }
     ensures found { HasCleanDisk (state S.Store conn.new) → IsTrue (D.Disk.is_clean (file_of pack.new))
         → HoldsPlaces (state S.Store conn.old).now
+        → AreThere (D.Disk.seen (file_of pack.old)) (runs_of (place_rows (state S.Store conn.old).now))
         → IfOk result (λ o. option_map (λ bytes. bytes.items) o
         ≡ contents_in (InPack (D.Disk.seen (file_of pack.old))) (state S.Store conn.old).now id.id) }
     ensures same { ChangesNothing S.Store conn.old conn.new result }

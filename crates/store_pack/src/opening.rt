@@ -7,6 +7,9 @@ ghost use Rattle.registry_pack.specs.declared.head.HeadCopy.{HeadCopy};
 ghost use Rattle.registry_pack.specs.Heads.{Says};
 ghost use Rattle.registry_pack.specs.Pack.{file_of, mark_of, age_of};
 ghost use Rattle.registry_pack.specs.Standing.{KeepsAll};
+ghost use Rattle.std.specs.List.{AllByRecursion};
+ghost use Rattle.registry_pack.specs.Extents.{size_of, starts_at};
+ghost use Rattle.store_pack.specs.Contents.{AreApart, IsPlaced};
 ghost use Rattle.store_pack.specs.Opening.{AreSpared, AreThere};
 ghost use Rattle.store_pack.specs.Pack.{PackSays};
 ghost use Rattle.store_contents.specs.Places.{HoldsPlaces, place_rows, runs_of};
@@ -14,7 +17,7 @@ ghost use Rattle.store_contents.specs.Places.{HoldsPlaces, place_rows, runs_of};
 use crate::pack_row::read_pack_row;
 use crate::reading::extents_in_use;
 use oci_types::Fault;
-use registry_pack::{OpenError, Pack};
+use registry_pack::{Extent, HEAD, OpenError, Pack};
 use sqlite::{Alter, Connection};
 use sqlite_disk::Disk;
 use std::alloc::Global;
@@ -26,8 +29,22 @@ pub enum PackFault {
     Rows(Fault),
     /// There is no row that says which pack it is.
     Unnamed,
+    /// A row names no bytes, or some of the pack's head.
+    Misplaced,
     /// The file was not opened.
     Pack(OpenError),
+}
+
+/// Whether each of the extents has bytes, and none in the head.
+fn are_placed(extents: &[Extent]) -> bool
+    ensures { IsTrue result → AllByRecursion (λ e. IsPlaced (starts_at e, size_of e)) extents.now }
+{
+    for extent in extents {
+        if extent.at() < HEAD || extent.size() == 0 {
+            return false;
+        }
+    }
+    true
 }
 
 /// Opens the pack of a registry: which one it is, its age, and what of it is in use are as the rows say. No
@@ -53,6 +70,9 @@ pub fn open_pack<S: Alter, D: Disk + Drop>(
     ensures spared { HasCleanDisk (state S.Store conn.new) → HoldsPlaces (state S.Store conn.old).now
         → IfOk result (λ pack. IsTrue (D.Disk.is_clean (file_of pack))
         → AreSpared pack (runs_of (place_rows (state S.Store conn.old).now))) }
+    ensures placed { HasCleanDisk (state S.Store conn.new) → HoldsPlaces (state S.Store conn.old).now
+        → OnOk result (AllByRecursion IsPlaced (runs_of (place_rows (state S.Store conn.old).now))) }
+    ensures apart { IfOk result AreApart }
     ensures kept { IfOk result (λ pack. KeepsAll D.Disk disk (file_of pack)) }
     ensures usable { IfOk result (λ pack. IsTrue (D.Disk.is_usable (file_of pack))) }
 {
@@ -65,6 +85,9 @@ pub fn open_pack<S: Alter, D: Disk + Drop>(
         Ok(used) => used,
         Err(fault) => return Err(PackFault::Rows(fault)),
     };
+    if !are_placed(&used) {
+        return Err(PackFault::Misplaced);
+    }
     match Pack::open(alloc, disk, row.mark, row.age, used) {
         Ok(pack) => Ok(pack),
         Err(error) => Err(PackFault::Pack(error)),

@@ -21,7 +21,7 @@ use store_statements::contents::keep_with;
 
 const SHA256: &str = "ba7816bf8f01cfea414140de5dae2223b00361a396177a9cb410ff61f20015ad";
 
-fn open_tables(alloc: Global) -> Result<Connection<MemStore>, Fail> {
+pub(crate) fn open_tables(alloc: Global) -> Result<Connection<MemStore>, Fail> {
     let mut conn = Connection::open_in_memory(alloc)?;
     conn.execute_batch(
         "CREATE TABLE registry_pack (mark BLOB NOT NULL, age INTEGER NOT NULL) STRICT; \
@@ -33,14 +33,14 @@ fn open_tables(alloc: Global) -> Result<Connection<MemStore>, Fail> {
     Ok(conn)
 }
 
-fn extent(rt: &impl Abort, at: usize, size: usize) -> Extent
+pub(crate) fn extent(rt: &impl Abort, at: usize, size: usize) -> Extent
     ensures at { starts_at result ≡ at }
     ensures size { size_of result ≡ size }
 {
     Extent::new(at, size).expect(rt, "it ends too far")
 }
 
-fn add(
+pub(crate) fn add(
     rt: &impl Abort,
     conn: &mut Connection<MemStore>,
     extents: &[Extent],
@@ -55,7 +55,11 @@ fn add(
     Ok(id)
 }
 
-fn remove(rt: &impl Abort, conn: &mut Connection<MemStore>, id: ContentId) -> Result<(), Fail> {
+pub(crate) fn remove(
+    rt: &impl Abort,
+    conn: &mut Connection<MemStore>,
+    id: ContentId,
+) -> Result<(), Fail> {
     assert!(rt; conn.is_autocommit());
     let mut tx = conn.transaction();
     remove_content(&mut tx, id)?;
@@ -63,7 +67,7 @@ fn remove(rt: &impl Abort, conn: &mut Connection<MemStore>, id: ContentId) -> Re
     Ok(())
 }
 
-fn find_extents(
+pub(crate) fn find_extents(
     alloc: Global,
     conn: &mut Connection<MemStore>,
     id: ContentId,

@@ -4,6 +4,7 @@ use Rattle.std.specs.List.{AllByRecursion}
 use Rattle.sha2.specs.Sha256.{sha256}
 use Rattle.registry_pack.specs.Extents.{AreWithin, bytes_at, size_of, total_of}
 use Rattle.store_contents.specs.Layouts.{Layout, InTables, InPack}
+use Rattle.store_places.specs.Places.{runs_at}
 use Rattle.store_places.specs.declared.source.Source.{Source}
 use Rattle.store_places.specs.declared.source.Source.TheVariants.{Bytes, Extents}
 
@@ -16,6 +17,11 @@ Fits (Extents extents hash) =
 abbrev pub size_in : Source → ℕ
 size_in (Bytes bytes) = length bytes.now
 size_in (Extents extents hash) = total_of extents.now
+
+-- which bytes of the pack they are: where each run begins, and how long it is
+abbrev pub runs_in : Source → List (ℕ × ℕ)
+runs_in (Bytes bytes) = []
+runs_in (Extents extents hash) = runs_at extents.now
 
 -- the bytes, of a layout that keeps them so
 abbrev pub text_in : Layout → Source → List ℕ

@@ -2,7 +2,6 @@ pub mod WorldReads
 pub mod ReadSequences
 pub mod ToldEach
 pub mod Passing
-pub mod CheckedReads
 pub mod TallyLemmas
 pub mod UsageReads
 pub mod NamedUsages

@@ -1,11 +1,13 @@
 //! The blobs of repositories.
 ghost use Rattle.std.specs.Prelude.{◌≡◌, ℕ, Vec, Option, Ok, IfOk};
 ghost use Rattle.std.specs.declared.alloc.Global.{Global};
+ghost use Rattle.sqlite.specs.Held.{state};
 ghost use Rattle.registry_model.specs.Lookups.{blob_at, blob_size_at, blob_digests_at};
 ghost use Rattle.registry_model.specs.Keeping.{bytes_in, shared_in, digests_shown};
-ghost use Rattle.store_contents.specs.Layouts.{Layout, InTables};
+ghost use Rattle.store_contents.specs.Layouts.{Layout};
 ghost use Rattle.store_statements.specs.Between.{Keeps, Stays, Tells};
 ghost use Rattle.store_statements.specs.Clauses.{Lasts};
+ghost use Rattle.store_bytes.specs.Reading.{IsReadable, IsAsWas};
 ghost use Rattle.store_statements.specs.Held.{is_storage};
 
 use crate::contents::content;
@@ -14,6 +16,7 @@ use registry_model::share;
 use sqlite::{Alter, Connection};
 use std::alloc::Global;
 use std::rc::Rc;
+use store_bytes::Contents;
 use store_statements::blobs::{find_blob_link, list_blob_digests};
 
 /// The length of a blob in bytes. Reads no blob.
@@ -51,19 +54,22 @@ fn shared(alloc: Global, read: Result<Option<Vec<u8>>, Fault>) -> Result<Option<
 }
 
 /// The bytes of a blob.
-fn blob_bytes<S: Alter>(
+fn blob_bytes<S: Alter, C: Contents>(
     alloc: Global,
     conn: &mut Connection<S>,
+    contents: &mut C,
     repo: &RepoName,
     digest: &Digest,
 ) -> Result<Option<Vec<u8>>, Fault>
-    ensures found { Tells S.Store InTables conn.old conn.new result
+    ensures found { IsReadable C.Contents contents.old contents.new (state S.Store conn.old)
+        → Tells S.Store (C.Contents.layout contents.old) conn.old conn.new result
         (λ w v. bytes_in v ≡ blob_at w repo.now digest.now) }
-    ensures settled { Stays S.Store InTables conn.old conn.new result }
+    ensures settled { Stays S.Store (C.Contents.layout contents.old) conn.old conn.new result }
     ensures survives { Lasts S.Store conn.old conn.new }
+    ensures same { IsAsWas C.Contents contents.old contents.new }
 {
     match find_blob_link(conn, repo.as_str(), digest.as_str()) {
-        Ok(Some(link)) => match content(alloc, conn, link.content) {
+        Ok(Some(link)) => match content(alloc, conn, contents, link.content) {
             Ok(bytes) => Ok(Some(bytes)),
             Err(fault) => Err(fault),
         },
@@ -73,18 +79,21 @@ fn blob_bytes<S: Alter>(
 }
 
 /// The bytes of a blob, so that several may hold them.
-pub fn blob<S: Alter>(
+pub fn blob<S: Alter, C: Contents>(
     alloc: Global,
     conn: &mut Connection<S>,
+    contents: &mut C,
     repo: &RepoName,
     digest: &Digest,
 ) -> Result<Option<Rc<Vec<u8>>>, Fault>
-    ensures found { Tells S.Store InTables conn.old conn.new result
+    ensures found { IsReadable C.Contents contents.old contents.new (state S.Store conn.old)
+        → Tells S.Store (C.Contents.layout contents.old) conn.old conn.new result
         (λ w v. shared_in v ≡ blob_at w repo.now digest.now) }
-    ensures settled { Stays S.Store InTables conn.old conn.new result }
+    ensures settled { Stays S.Store (C.Contents.layout contents.old) conn.old conn.new result }
     ensures survives { Lasts S.Store conn.old conn.new }
+    ensures same { IsAsWas C.Contents contents.old contents.new }
 {
-    let read = blob_bytes(alloc, conn, repo, digest);
+    let read = blob_bytes(alloc, conn, contents, repo, digest);
     shared(alloc, read)
 }
 

@@ -1,17 +1,18 @@
 //! The bytes of contents that rows name.
 ghost use Rattle.std.specs.Prelude.{◌≡◌, ◌++◌, [], map, false, Ok, Some, OnOk, IfOk, IsOkAnd};
 ghost use Rattle.std.specs.List.{concat};
-ghost use Rattle.store_contents.specs.Layouts.{InTables};
+ghost use Rattle.sqlite.specs.Held.{state};
 ghost use Rattle.store_statements.specs.World.{content_at};
 ghost use Rattle.store_statements.specs.Held.{is_storage};
 ghost use Rattle.store_statements.specs.Between.{Finds, Stays};
 ghost use Rattle.store_statements.specs.Clauses.{Lasts};
+ghost use Rattle.store_bytes.specs.Reading.{IsReadable, IsAsWas};
 
 use oci_types::Fault;
 use sqlite::{Alter, Connection};
 use std::alloc::Global;
-use store_contents::{ContentId, read_bytes};
-use store_statements::telling::checked;
+use store_bytes::Contents;
+use store_contents::ContentId;
 
 /// The bytes that were found. `Fault::Storage` where there are none.
 fn present(found: Result<Option<Vec<u8>>, Fault>) -> Result<Vec<u8>, Fault>
@@ -26,18 +27,20 @@ fn present(found: Result<Option<Vec<u8>>, Fault>) -> Result<Vec<u8>, Fault>
 }
 
 /// The bytes of the content. `Fault::Storage` where there is no such content.
-pub(crate) fn content<S: Alter>(
+pub(crate) fn content<S: Alter, C: Contents>(
     alloc: Global,
     conn: &mut Connection<S>,
+    contents: &mut C,
     id: ContentId,
 ) -> Result<Vec<u8>, Fault>
-    ensures found { Finds S.Store InTables conn.old conn.new result
+    ensures found { IsReadable C.Contents contents.old contents.new (state S.Store conn.old)
+        → Finds S.Store (C.Contents.layout contents.old) conn.old conn.new result
         (λ t bytes. t.contents id.id ≡ Some bytes.items) }
-    ensures settled { Stays S.Store InTables conn.old conn.new result }
+    ensures settled { Stays S.Store (C.Contents.layout contents.old) conn.old conn.new result }
     ensures survives { Lasts S.Store conn.old conn.new }
+    ensures same { IsAsWas C.Contents contents.old contents.new }
 {
-    let found = read_bytes(alloc, conn, id);
-    present(checked(conn, found))
+    present(contents.read(alloc, conn, id))
 }
 
 /// An empty buffer that holds `size` bytes without growing.
@@ -66,20 +69,23 @@ fn extend(bytes: &mut Vec<u8>, found: Result<Vec<u8>, Fault>) -> Result<(), Faul
 }
 
 /// The bytes of the contents, one behind the other. `size` is how many they are.
-pub(crate) fn joined<S: Alter>(
+pub(crate) fn joined<S: Alter, C: Contents>(
     alloc: Global,
     conn: &mut Connection<S>,
+    contents: &mut C,
     ids: &[ContentId],
     size: u64,
 ) -> Result<Vec<u8>, Fault>
-    ensures found { Finds S.Store InTables conn.old conn.new result
+    ensures found { IsReadable C.Contents contents.old contents.new (state S.Store conn.old)
+        → Finds S.Store (C.Contents.layout contents.old) conn.old conn.new result
         (λ t bytes. bytes.items ≡ concat (map (λ id. content_at t.contents id.id) ids.now)) }
-    ensures settled { Stays S.Store InTables conn.old conn.new result }
+    ensures settled { Stays S.Store (C.Contents.layout contents.old) conn.old conn.new result }
     ensures survives { Lasts S.Store conn.old conn.new }
+    ensures same { IsAsWas C.Contents contents.old contents.new }
 {
     let mut bytes = with_room(alloc, size)?;
     for id in ids {
-        extend(&mut bytes, content(alloc, conn, *id))?;
+        extend(&mut bytes, content(alloc, conn, contents, *id))?;
     }
     Ok(bytes)
 }

@@ -5,7 +5,7 @@ mod blobs;
 mod change_lookups;
 mod contents;
 mod deletion_lookups;
-mod each;
+mod found_lists;
 mod grants;
 mod level_lists;
 mod manifests;

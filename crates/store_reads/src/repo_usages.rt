@@ -2,14 +2,14 @@
 ghost use Rattle.std.specs.Prelude.{◌≡◌, filter, length};
 ghost use Rattle.registry_model.specs.Keeping.{usages_shown};
 ghost use Rattle.registry_model.specs.Lookups.{usage_at, usages_of};
-ghost use Rattle.store_contents.specs.Layouts.{Layout, InTables};
+ghost use Rattle.store_contents.specs.Layouts.{Layout};
 ghost use Rattle.store_statements.specs.Keys.{of_first};
 ghost use Rattle.store_statements.specs.Between.{Finds, Stays, Tells};
 ghost use Rattle.store_statements.specs.Clauses.{Lasts};
-ghost use Rattle.store_statements.specs.World.{world_of};
+ghost use Rattle.store_reads.specs.Each.{AreTold};
 ghost use Rattle.store_reads.specs.Tallies.{holdings_in, usage_from, named_usage};
 
-use crate::each::{Leads, each};
+use crate::found_lists::push_found;
 use crate::tallies::{Holdings, read_holdings};
 use oci_types::{Fault, RepoName};
 use registry_model::Usage;
@@ -82,22 +82,39 @@ pub fn usage<S: Alter>(
     }
 }
 
-/// With each name goes what the repository holds and may hold.
-impl Leads for RepoName {
-    type Value = (RepoName, Usage);
-
-    ghost told = { λ t repo named. named ≡ named_usage (world_of t) repo };
-
-    fn read<S: Alter>(
-        self,
-        alloc: Global,
-        conn: &mut Connection<S>,
-    ) -> Result<(RepoName, Usage), Fault> {
-        match usage(alloc, conn, &self) {
-            Ok(held) => Ok((self, held)),
-            Err(fault) => Err(fault),
-        }
+/// With the name goes what the repository holds and may hold.
+fn with_usage<S: Alter>(
+    alloc: Global,
+    conn: &mut Connection<S>,
+    repo: RepoName,
+) -> Result<(RepoName, Usage), Fault>
+    ensures found { (l : Layout) → Tells S.Store l conn.old conn.new result
+        (λ w named. named ≡ named_usage w repo) }
+    ensures settled { (l : Layout) → Stays S.Store l conn.old conn.new result }
+    ensures survives { Lasts S.Store conn.old conn.new }
+{
+    match usage(alloc, conn, &repo) {
+        Ok(held) => Ok((repo, held)),
+        Err(fault) => Err(fault),
     }
+}
+
+/// The same of each of them, in their order.
+fn with_usages<S: Alter>(
+    alloc: Global,
+    conn: &mut Connection<S>,
+    repos: Vec<RepoName>,
+) -> Result<Vec<(RepoName, Usage)>, Fault>
+    ensures found { (l : Layout) → Tells S.Store l conn.old conn.new result
+        (λ w all. AreTold (λ repo named. named ≡ named_usage w repo) repos.items all.items) }
+    ensures settled { (l : Layout) → Stays S.Store l conn.old conn.new result }
+    ensures survives { Lasts S.Store conn.old conn.new }
+{
+    let mut all = Vec::new(alloc);
+    for repo in repos {
+        push_found(&mut all, with_usage(alloc, conn, repo))?;
+    }
+    Ok(all)
 }
 
 /// What each repository holds and may hold, in byte order of names. Reads no blob and no manifest.
@@ -105,11 +122,11 @@ pub fn usages<S: Alter>(
     alloc: Global,
     conn: &mut Connection<S>,
 ) -> Result<Vec<(RepoName, Usage)>, Fault>
-    ensures found { Tells S.Store InTables conn.old conn.new result
-        (λ w all. usages_shown all ≡ usages_of w) }
-    ensures settled { Stays S.Store InTables conn.old conn.new result }
+    ensures found { (l : Layout)
+        → Tells S.Store l conn.old conn.new result (λ w all. usages_shown all ≡ usages_of w) }
+    ensures settled { (l : Layout) → Stays S.Store l conn.old conn.new result }
     ensures survives { Lasts S.Store conn.old conn.new }
 {
-    let names = list_repos(alloc, conn)?;
-    each(alloc, conn, names)
+    let repos = list_repos(alloc, conn)?;
+    with_usages(alloc, conn, repos)
 }

@@ -16,4 +16,7 @@ pub mod BesideLemmas
 pub mod BesideTexts
 pub mod InTurn
 pub mod MadeTables
+pub mod PackTexts
+pub mod PackMade
+pub mod PackFresh
 pub mod Meanings

@@ -9,7 +9,7 @@ use Rattle.store_schema.proofs.OldTexts as old
 use Rattle.store_schema.proofs.BesideTexts.{one_version, one_repos, one_grants, one_tags, one_contents, one_blob_links, one_manifest_links, one_uploads, one_pieces, names_sha256, names_subject}
 use Rattle.store_schema.proofs.InTurn.{Making, IsSo, MakesEach, text_in}
 
-abbrev table_by : List ℕ → Table → Making
+abbrev pub table_by : List ℕ → Table → Making
 table_by text table = record { text = text; name = table.name; tables = table ∷ [] }
 
 abbrev pub makings_of_two : List Making

@@ -3,6 +3,8 @@ pub mod Rows
 pub mod Layout
 pub mod Making
 pub mod OldSchema
+pub mod PlaceTables
+pub mod PackSchema
 pub mod Ordered
 pub mod Beside
 pub mod Commands

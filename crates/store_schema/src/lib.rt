@@ -4,4 +4,4 @@
 
 mod make;
 
-pub use make::{make_tables, make_tables_of_two};
+pub use make::{make_tables, make_tables_of_pack, make_tables_of_two};

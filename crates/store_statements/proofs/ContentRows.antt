@@ -1,5 +1,5 @@
 -- Bytes that are found or added among the contents, as the tables have them.
-use Rattle.std.proofs.Common.{◌≡◌, ◌⊎◌, ◌∙◌, inl, inr, ℕ, ℤ, List, Bool, true, false, cond, Option, Some, None, Ok, Err, Result, OnOk, IfOk, refl, sym, ap, subst, arith}
+use Rattle.std.proofs.Common.{◌≡◌, ◌≢◌, ◌⊎◌, ◌∙◌, inl, inr, ℕ, ℤ, List, [], Bool, true, false, cond, Option, Some, None, Ok, Err, Result, OnOk, IfOk, refl, sym, ap, subst, arith}
 use Rattle.std.specs.Prelude.{option_map, drop, bytes_eq, ◌||◌, slice_index_or}
 use Rattle.std.specs.Str.Pattern.{FindsTextPrefix, StripsPrefix}
 use Rattle.std.specs.Ordering.{int_eq}
@@ -27,6 +27,7 @@ use Rattle.store_statements.specs.Known.{KnowsRegistry}
 use Rattle.store_statements.specs.Held.{IsReady, HoldsTables, held, tables_in}
 use Rattle.store_statements.specs.Steps.{ContentKept}
 use Rattle.store_statements.proofs.OtherTables.{only_contents, only_around}
+use Rattle.store_statements.proofs.PlacesKept.{no_runs}
 
 -- a transaction over the tables is one over the contents
 pub inside_of : (s : State) → IsReady InTables s → IsInside s
@@ -44,12 +45,22 @@ grown olds news id bytes free adds i b was = adds i ∙ go (int_eq id i) refl
     go true e = absurd (let none : olds i ≡ None = ap olds (sym (int_eq_is id i e)) ∙ free in cc)
     go false e = was
 
-pub content_kept : (old new : State) (id : ℤ) (bytes : Text) → IsReady InTables old → IsInside new → FindsOrAdds old.now new.now id bytes → IsReady InTables new × ContentKept (held InTables old) (held InTables new) id bytes
+-- and no other changes
+rested : (olds news : ℤ → Option Text) (id : ℤ) (bytes : Text) → ((i : ℤ) → news i ≡ cond (int_eq id i) (Some bytes) (olds i)) → (i : ℤ) → i ≢ id → news i ≡ olds i
+rested olds news id bytes adds i other = adds i ∙ go (int_eq id i) refl
+  where
+    go : (same : Bool) → int_eq id i ≡ same → cond same (Some bytes) (olds i) ≡ olds i
+    go true e = absurd (other (sym (int_eq_is id i e)))
+    go false e = refl
+
+pub content_kept : (old new : State) (id : ℤ) (bytes : Text) → IsReady InTables old → IsInside new → FindsOrAdds old.now new.now id bytes → IsReady InTables new × ContentKept (held InTables old) (held InTables new) id bytes []
 content_kept old new id bytes is inside (inl finds) = (
   record { inside = inside.inside; holds = subst (HoldsTables InTables) (sym finds.same) is.holds },
   record {
     grow = λ i b was. ap (λ db. bytes_in db i) finds.same ∙ was;
     there = ap (λ db. bytes_in db id) finds.same ∙ finds.there;
+    rest = λ i other. ap (λ db. bytes_in db i) finds.same;
+    placed = no_runs (held InTables old) (held InTables new) refl refl;
     others = subst (λ (db : Database). tables_in InTables db ≡ record (tables_in InTables old.now) { contents = bytes_in db }) (sym finds.same) refl;
   },
 )
@@ -66,13 +77,15 @@ content_kept old new id bytes is inside (inr adds) =
       record {
         grow = grown (bytes_in old.now) (bytes_in new.now) id bytes adds.free adds.contents;
         there = adds.contents id ∙ ap (λ b. cond b (Some bytes) (bytes_in old.now id)) (int_eq_itself id);
+        rest = rested (bytes_in old.now) (bytes_in new.now) id bytes adds.contents;
+        placed = no_runs (held InTables old) (held InTables new) refl refl;
         others = others;
       },
     )
 
 -- the same of a call's result
 pub content_kept_if : {E : Type 0} (old new : State) (bytes : Text) (r : Result ContentId E) → IsReady InTables old → OnOk r (IsInside new) → IfOk r (λ it. FindsOrAdds old.now new.now it.id bytes)
-    → IfOk r (λ it. IsReady InTables new × ContentKept (held InTables old) (held InTables new) it.id bytes)
+    → IfOk r (λ it. IsReady InTables new × ContentKept (held InTables old) (held InTables new) it.id bytes [])
 content_kept_if old new bytes (Ok it) is inside h = content_kept old new it.id bytes is inside h
 content_kept_if old new bytes (Err e) is inside h = tt
 
@@ -89,7 +102,7 @@ unfolding sha256_text
 digits_of bytes hash is = ap encode_lower is
 
 content_added : (file : List ℕ) (old new : State) (id : ℤ) (hash : List ℕ) (extents : List Extent) → IsReady (InPack file) old → places.IsInside new → places.Adds old.now new.now id (encode_lower hash) extents → hash ≡ sha256 (bytes_at file extents)
-    → IsReady (InPack file) new × ContentKept (held (InPack file) old) (held (InPack file) new) id (bytes_at file extents)
+    → IsReady (InPack file) new × ContentKept (held (InPack file) old) (held (InPack file) new) id (bytes_at file extents) (places.runs_at extents)
 content_added file old new id hash extents is inside adds hashed =
     let others = only_around file old.now new.now is.holds.known adds.others in (
       record {
@@ -103,6 +116,8 @@ content_added file old new id hash extents is inside adds hashed =
       record {
         grow = grown (contents_in (InPack file) old.now) (contents_in (InPack file) new.now) id (bytes_at file extents) (ap (option_map (λ _. joined file (places_of (place_rows old.now) id))) adds.free) (adds.bytes file);
         there = adds.bytes file id ∙ ap (λ b. cond b (Some (bytes_at file extents)) (contents_in (InPack file) old.now id)) (int_eq_itself id);
+        rest = rested (contents_in (InPack file) old.now) (contents_in (InPack file) new.now) id (bytes_at file extents) (adds.bytes file);
+        placed = record { runs = adds.runs; packs = ap (λ (t : Tables). t.packs) others };
         others = others;
       },
     )
@@ -110,7 +125,7 @@ content_added file old new id hash extents is inside adds hashed =
 -- the same of a call's result
 pub content_added_if : {E : Type 0} (file : List ℕ) (old new : State) (hash : List ℕ) (extents : List Extent) (r : Result ContentId E) → IsReady (InPack file) old → hash ≡ sha256 (bytes_at file extents)
     → IfOk r (λ it. places.Adds old.now new.now it.id (encode_lower hash) extents × places.IsInside new)
-    → IfOk r (λ it. IsReady (InPack file) new × ContentKept (held (InPack file) old) (held (InPack file) new) it.id (bytes_at file extents))
+    → IfOk r (λ it. IsReady (InPack file) new × ContentKept (held (InPack file) old) (held (InPack file) new) it.id (bytes_at file extents) (places.runs_at extents))
 content_added_if file old new hash extents (Ok it) is hashed h = content_added file old new it.id hash extents is h.1 h.0 hashed
 content_added_if file old new hash extents (Err e) is hashed h = tt
 

@@ -58,6 +58,7 @@ pub mod TagReads
 pub mod ManifestReads
 pub mod InOrder
 pub mod PageRows
+pub mod PlacesKept
 pub mod ContentRows
 pub mod ContentDigests
 pub mod DigestReads

@@ -1,20 +1,21 @@
 -- A statement that writes one table leaves the others: one lemma over the nine, so that a tenth is a line in
 -- each of the lists by table below.
 use Rattle.std.proofs.Common.{◌≡◌, ◌≢◌, ◌∙◌, ◌==◌, ℕ, ℤ, zero, suc, Bool, true, false, List, ◌∷◌, [], Some, refl, ap, sym, subst, if◌then◌else◌}
-use Rattle.std.specs.Prelude.{slice_get, Option}
+use Rattle.std.specs.Prelude.{slice_get, Option, find, option_map}
 use Rattle.std.proofs.lemmas.Bool.{eqb-true, eqb-false}
 use Rattle.sqlite_keyed.proofs.ListLemmas.{all-slice_get}
 use Rattle.sqlite_trees.proofs.ListLemmas.{all_weaker, all_both}
 use Rattle.sqlite.specs.Order.{Row}
 use Rattle.sqlite.specs.Table.{Table}
 use Rattle.sqlite.specs.Schema.{Schema}
+use Rattle.sqlite.specs.Tree.{has_rowid}
 use Rattle.sqlite.specs.Effect.{Database}
 use Rattle.store_schema.specs.Schema.{version_table, repos_table, grants_table, tags_table, contents_table, blob_links_table, manifest_links_table, uploads_table, pieces_table}
 use Rattle.store_schema.specs.Layout.{rows_of, tree_of, Stands, KeepsOthers}
 use Rattle.store_schema.proofs.Writes.{rows_in}
 use Rattle.store_contents.specs.Contents.{HoldsContents, bytes_in}
 use Rattle.store_contents.specs.PlaceTables.{pack_table, places_table}
-use Rattle.store_contents.specs.Places.{place_rows}
+use Rattle.store_contents.specs.Places.{content_rows, joined, pack_rows, place_rows, places_of}
 use Rattle.store_places.specs.Places.{KeepsAround}
 use Rattle.store_places.proofs.SourceLemmas.{rows_around}
 use Rattle.store_contents.specs.Layouts.{Layout, InTables, InPack, Holds, contents_in, places_in, packs_in, further_trees, schema_number}
@@ -261,3 +262,31 @@ module _ (file : List ℕ) (old new : Database) (k : KnowsRegistry (InPack file)
   pub only_around : tables_in (InPack file) new ≡ record (tables_in (InPack file) old) { contents = contents_in (InPack file) new; places = place_rows new }
   only_around = λ i. with_rows (InPack file) (λ v. around v i)
       (record { contents = contents_in (InPack file) new; places = place_rows new; packs = rows_around old new pack_table k.contents.pack keeps k.contents.pack_apart.0 k.contents.pack_apart.1 i }) (beside_around i)
+
+-- ---- the row that says which pack it is
+
+module _ (file : List ℕ) (old new : Database) (k : KnowsRegistry (InPack file) old.schema) (keeps : KeepsOthers pack_table old new)
+    (contents : content_rows new ≡ content_rows old) (places : place_rows new ≡ place_rows old) where
+  left_by_pack : (v : Which) → rows_of new (table_of v) ≡ rows_of old (table_of v)
+  left_by_pack v =
+      rows_in old new pack_table (table_of v) (stands old new k v) keeps
+      (all-slice_get (λ o. o ≢ tree_of old.schema pack_table) (trees_of old.schema) (place v) (tree_of old.schema (table_of v)) (at old new k v) k.further.1.0.0)
+
+  beside_pack : beside_in new ≡ beside_in old
+  beside_pack = λ i. record {
+    schema = keeps.schema i;
+    rows = (ap (λ (s : Schema). rows_beside new.trees (trees_of s) s.tables) keeps.schema
+        ∙ same_beside old.trees new.trees (trees_of old.schema) old.schema.tables
+        (all_both (λ (t : Table). t.tree ≢ tree_of old.schema pack_table → new.trees t.tree ≡ old.trees t.tree)
+        (λ (t : Table). is_beside (trees_of old.schema) t ≡ true → t.tree ≢ tree_of old.schema pack_table) (λ (t : Table). is_beside (trees_of old.schema) t ≡ true → new.trees t.tree ≡ old.trees t.tree)
+        (λ t keep none is. keep (none is)) old.schema.tables keeps.tables k.further.1.0.1)) i;
+  }
+
+  same_bytes : (id : ℤ) → contents_in (InPack file) new id ≡ contents_in (InPack file) old id
+  same_bytes id =
+      ap (λ (rows : List Row). option_map (λ _. joined file (places_of (place_rows new) id)) (find (has_rowid id) rows)) contents
+      ∙ ap (λ (rows : List Row). option_map (λ _. joined file (places_of rows id)) (find (has_rowid id) (content_rows old))) places
+
+  pub only_pack : tables_in (InPack file) new ≡ record (tables_in (InPack file) old) { packs = pack_rows new }
+  only_pack = λ i. with_rows (InPack file) (λ v. left_by_pack v i)
+      (record { contents = λ id. same_bytes id i; places = places i; packs = pack_rows new }) (beside_pack i)

@@ -75,6 +75,12 @@ module _ {S : Type 0} (g : Ghosts S) (l : Layout) (old new : Held S) where
       HasCleanDisk (state g new) → IsSettled l (state g old)
       → OnOk r (P (held l (state g old)) (held l (state g new)))
 
+  -- this is so of the answer, and of the tables before and after
+  abbrev pub RelatesBy : {A E : Type 0} → Result A E → (A → Tables → Tables → Type 0) → Type 0
+  RelatesBy r P =
+      HasCleanDisk (state g new) → IsSettled l (state g old)
+      → IfOk r (λ v. P v (held l (state g old)) (held l (state g new)))
+
   -- a failure changed nothing, where the connection is open
   abbrev pub GoesBack : {A E : Type 0} → Result A E → Type 0
   GoesBack r = HasCleanDisk (state g new) → IsSettled l (state g old)

@@ -3,6 +3,7 @@ pub mod Tables
 pub mod World
 pub mod Registry
 pub mod Changes
+pub mod PlaceChanges
 pub mod RepoTexts
 pub mod GrantTexts
 pub mod TagTexts

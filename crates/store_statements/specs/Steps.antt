@@ -1,5 +1,5 @@
 -- What the store's statements make of the tables.
-use Rattle.std.specs.Prelude.{◌≡◌, ℤ, pos, Bool, ◌∷◌, [], ◌&&◌, bytes_eq, ◌+◌, ℕ, Some, length}
+use Rattle.std.specs.Prelude.{◌≡◌, ◌≢◌, ℤ, pos, Bool, List, ◌∷◌, [], ◌&&◌, bytes_eq, ◌+◌, ℕ, Some, length}
 use Rattle.sqlite.specs.declared.types.Value.TheVariants.{Int}
 use Rattle.sqlite.specs.Order.{Row}
 use Rattle.sqlite.specs.State.{State}
@@ -9,6 +9,7 @@ use Rattle.store_statements.specs.Keys.{of_first, of_session, has_key}
 use Rattle.store_statements.specs.Tables.{Tables, IsEmptyBeside, new_tables}
 use Rattle.store_statements.specs.Registry.{IsOfSchemaTwo}
 use Rattle.store_statements.specs.Changes.{without, changed, Comes, with_last, with_size, upload_columns, blob_columns, piece_columns, Grow}
+use Rattle.store_statements.specs.PlaceChanges.{AddsRuns}
 use Rattle.store_contents.specs.Layouts.{Layout}
 use Rattle.store_statements.specs.Held.{IsReady, held}
 
@@ -126,36 +127,44 @@ pub record SessionOpened (old new : Tables) (name : Text) (number : ℕ) : Type 
 
 -- ---- bytes that come with what names them
 
--- the bytes have an id, as they had or got it; every other content stays
-pub record ContentKept (old new : Tables) (id : ℤ) (bytes : Text) : Type 0 where
+-- the bytes have an id, as they had or got it, and no other content comes or goes; of places those of these
+-- runs come
+pub record ContentKept (old new : Tables) (id : ℤ) (bytes : Text) (runs : List (ℕ × ℕ)) : Type 0 where
   pub grow : Grow old.contents new.contents
   pub there : new.contents id ≡ Some bytes
+  pub rest : (i : ℤ) → i ≢ id → new.contents i ≡ old.contents i
+  pub placed : AddsRuns runs old new
   pub others : new ≡ record old { contents = new.contents; places = new.places }
 
-pub record BlobStored (old new : Tables) (name digest bytes : Text) : Type 0 where
+pub record BlobStored (old new : Tables) (name digest bytes : Text) (runs : List (ℕ × ℕ)) : Type 0 where
   pub id : ℤ
   pub grow : Grow old.contents new.contents
   pub there : new.contents id ≡ Some bytes
+  pub rest : (i : ℤ) → i ≢ id → new.contents i ≡ old.contents i
+  pub placed : AddsRuns runs old new
   pub comes : Comes old.blobs new.blobs (blob_columns name digest (length bytes) id)
   pub others : new ≡ record old { contents = new.contents; places = new.places; blobs = new.blobs }
 
-pub record PieceStored (old new : Tables) (name : Text) (number start : ℕ) (bytes : Text) : Type 0 where
+pub record PieceStored (old new : Tables) (name : Text) (number start : ℕ) (bytes : Text)
+    (runs : List (ℕ × ℕ)) : Type 0 where
   pub id : ℤ
   pub grow : Grow old.contents new.contents
   pub there : new.contents id ≡ Some bytes
+  pub rest : (i : ℤ) → i ≢ id → new.contents i ≡ old.contents i
+  pub placed : AddsRuns runs old new
   pub comes : Comes old.pieces new.pieces (piece_columns name number start (length bytes) id)
   pub others : new ≡ record old { contents = new.contents; places = new.places; pieces = new.pieces }
 
 -- the session's size is set, and a piece comes that begins where it ended
-abbrev pub Appended : Tables → Tables → Text → ℕ → ℕ → Text → Type 0
-Appended old new name number size bytes =
+abbrev pub Appended : Tables → Tables → Text → ℕ → ℕ → Text → List (ℕ × ℕ) → Type 0
+Appended old new name number size bytes runs =
     PieceStored (uploads_changed (of_session name number) (with_size (size + length bytes)) old)
-    new name number size bytes
+    new name number size bytes runs
 
 -- the session ends, and the blob comes
-abbrev pub Finished : Tables → Tables → Text → ℕ → Text → Text → Type 0
-Finished old new name number digest bytes =
-    BlobStored (sessions_without (of_session name number) old) new name digest bytes
+abbrev pub Finished : Tables → Tables → Text → ℕ → Text → Text → List (ℕ × ℕ) → Type 0
+Finished old new name number digest bytes runs =
+    BlobStored (sessions_without (of_session name number) old) new name digest bytes runs
 
 -- the link to the digest goes, and each tag that names it
 abbrev pub without_manifest : Text → Text → Tables → Tables

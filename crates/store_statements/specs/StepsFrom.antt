@@ -24,10 +24,10 @@ pub record LinkIsPut (old new : Tables) (repo digest : List ℕ) (size : ℕ) (c
   pub comes : Comes old.blobs new.blobs (blob_columns repo digest size content)
   pub others : new ≡ record old { blobs = new.blobs }
 
--- the transaction goes on, and the bytes have an id, which is the answer
+-- the transaction goes on, and the bytes have an id, which is the answer; of places those of these runs come
 abbrev pub KeepsContent : {S : Type 0} → Ghosts S → Layout → Held S → Held S → Result ContentId Fault → Text
-    → Type 0
-KeepsContent g l old new r bytes =
+    → List (ℕ × ℕ) → Type 0
+KeepsContent g l old new r bytes runs =
     HasCleanDisk (state g new) → IsReady l (state g old)
     → IfOk r (λ it. IsReady l (state g new)
-    × ContentKept (held l (state g old)) (held l (state g new)) it.id bytes)
+    × ContentKept (held l (state g old)) (held l (state g new)) it.id bytes runs)

@@ -2,7 +2,7 @@
 ghost use Rattle.std.specs.Prelude.{◌≡◌, ◌<◌, ◌^◌, true, find, None};
 ghost use Rattle.oci_types.specs.Digest.{matches};
 ghost use Rattle.store_contents.specs.Layouts.{Layout};
-ghost use Rattle.store_places.specs.Source.{Fits, IfBytes, Suits, size_in, text_in};
+ghost use Rattle.store_places.specs.Source.{Fits, IfBytes, Suits, runs_in, size_in, text_in};
 ghost use Rattle.store_statements.specs.Keys.{has_key};
 ghost use Rattle.store_statements.specs.Clauses.{KeepsInside, LastsUncommitted};
 ghost use Rattle.store_statements.specs.Steps.{BlobStored};
@@ -29,7 +29,7 @@ pub fn store_blob<S: Alter>(
     ensures stored { (l : Layout) → Suits l source.entry
         → StepsFrom S.Store l tx.old.conn.now tx.new.conn.now result
         (λ t. find (has_key repo.now digest.now) t.blobs ≡ None)
-        (λ t u. BlobStored t u repo.now digest.now (text_in l source.entry)) }
+        (λ t u. BlobStored t u repo.now digest.now (text_in l source.entry) (runs_in source.entry)) }
     ensures kept { (l : Layout) → Suits l source.entry
         → KeepsInside S.Store l tx.old.conn.now tx.new.conn.now }
     ensures same_reference { tx.new.conn.ghost_name ≡ tx.old.conn.ghost_name }

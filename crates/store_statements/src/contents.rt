@@ -1,11 +1,12 @@
 //! Bytes that are kept once, as links and pieces name them.
-ghost use Rattle.std.specs.Prelude.{◌≡◌, ◌<◌, ◌^◌, true, ℕ, List, IfSome};
+ghost use Rattle.std.specs.Prelude.{◌≡◌, ◌<◌, ◌^◌, true, ℕ, List, [], IfSome};
 ghost use Rattle.std.specs.List.{AllByRecursion};
 ghost use Rattle.sha2.specs.Sha256.{sha256};
 ghost use Rattle.oci_types.specs.Digest.{matches};
 ghost use Rattle.registry_pack.specs.Extents.{AreWithin, bytes_at, size_of, total_of};
 ghost use Rattle.store_contents.specs.Layouts.{Layout, InTables, InPack};
-ghost use Rattle.store_places.specs.Source.{Fits, IfBytes, Suits, text_in};
+ghost use Rattle.store_places.specs.Places.{runs_at};
+ghost use Rattle.store_places.specs.Source.{Fits, IfBytes, Suits, runs_in, text_in};
 ghost use Rattle.store_statements.specs.Between.{Finds, Keeps, Stays};
 ghost use Rattle.store_statements.specs.Clauses.{KeepsInside, Lasts, LastsUncommitted};
 ghost use Rattle.store_statements.specs.ContentShown.{has_sha256_digest};
@@ -25,7 +26,8 @@ pub fn keep<S: Alter>(
     tx: &mut Transaction<'_, S>,
     bytes: &[u8],
 ) -> Result<ContentId, Fault>
-    ensures content { KeepsContent S.Store InTables tx.old.conn.now tx.new.conn.now result bytes.now }
+    ensures content { KeepsContent S.Store InTables tx.old.conn.now tx.new.conn.now result bytes.now
+        [] }
     ensures kept { KeepsInside S.Store InTables tx.old.conn.now tx.new.conn.now }
     ensures same_reference { tx.new.conn.ghost_name ≡ tx.old.conn.ghost_name }
     ensures survives { LastsUncommitted S.Store tx.old.conn.now tx.new.conn.now }
@@ -41,7 +43,8 @@ fn keep_bytes<S: Alter>(
     bytes: &[u8],
 ) -> Result<ContentId, Fault>
     requires matching { matches digest.now bytes.now ≡ true }
-    ensures content { KeepsContent S.Store InTables tx.old.conn.now tx.new.conn.now result bytes.now }
+    ensures content { KeepsContent S.Store InTables tx.old.conn.now tx.new.conn.now result bytes.now
+        [] }
     ensures kept { KeepsInside S.Store InTables tx.old.conn.now tx.new.conn.now }
     ensures same_reference { tx.new.conn.ghost_name ≡ tx.old.conn.ghost_name }
     ensures survives { LastsUncommitted S.Store tx.old.conn.now tx.new.conn.now }
@@ -60,7 +63,8 @@ fn keep_hashed<S: Alter>(
     bytes: &[u8],
 ) -> Result<ContentId, Fault>
     requires hashed { IfSome hash (λ h. h ≡ sha256 bytes.now) }
-    ensures content { KeepsContent S.Store InTables tx.old.conn.now tx.new.conn.now result bytes.now }
+    ensures content { KeepsContent S.Store InTables tx.old.conn.now tx.new.conn.now result bytes.now
+        [] }
     ensures kept { KeepsInside S.Store InTables tx.old.conn.now tx.new.conn.now }
     ensures same_reference { tx.new.conn.ghost_name ≡ tx.old.conn.ghost_name }
     ensures survives { LastsUncommitted S.Store tx.old.conn.now tx.new.conn.now }
@@ -82,7 +86,7 @@ fn keep_extents<S: Alter>(
     requires some { AllByRecursion (λ e. 0 < size_of e) extents.now }
     ensures content { (file : List ℕ) → AreWithin file extents.now → hash ≡ sha256 (bytes_at file extents.now)
         → KeepsContent S.Store (InPack file) tx.old.conn.now tx.new.conn.now result
-        (bytes_at file extents.now) }
+        (bytes_at file extents.now) (runs_at extents.now) }
     ensures kept { (file : List ℕ) → KeepsInside S.Store (InPack file) tx.old.conn.now tx.new.conn.now }
     ensures same_reference { tx.new.conn.ghost_name ≡ tx.old.conn.ghost_name }
     ensures survives { LastsUncommitted S.Store tx.old.conn.now tx.new.conn.now }
@@ -101,7 +105,8 @@ pub fn keep_matching<S: Alter>(
     requires fits { Fits source }
     requires matching { IfBytes (λ bytes. matches digest.now bytes ≡ true) source }
     ensures content { (l : Layout) → Suits l source.entry
-        → KeepsContent S.Store l tx.old.conn.now tx.new.conn.now result (text_in l source.entry) }
+        → KeepsContent S.Store l tx.old.conn.now tx.new.conn.now result (text_in l source.entry)
+        (runs_in source.entry) }
     ensures kept { (l : Layout) → Suits l source.entry
         → KeepsInside S.Store l tx.old.conn.now tx.new.conn.now }
     ensures same_reference { tx.new.conn.ghost_name ≡ tx.old.conn.ghost_name }
@@ -123,7 +128,8 @@ pub fn keep_with<S: Alter>(
     requires fits { Fits source }
     requires hashed { IfBytes (λ bytes. IfSome hash (λ h. h ≡ sha256 bytes)) source }
     ensures content { (l : Layout) → Suits l source.entry
-        → KeepsContent S.Store l tx.old.conn.now tx.new.conn.now result (text_in l source.entry) }
+        → KeepsContent S.Store l tx.old.conn.now tx.new.conn.now result (text_in l source.entry)
+        (runs_in source.entry) }
     ensures kept { (l : Layout) → Suits l source.entry
         → KeepsInside S.Store l tx.old.conn.now tx.new.conn.now }
     ensures same_reference { tx.new.conn.ghost_name ≡ tx.old.conn.ghost_name }

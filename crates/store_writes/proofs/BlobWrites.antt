@@ -1,5 +1,5 @@
 -- What the writes of blobs make of the world.
-use Rattle.std.proofs.Common.{◌≡◌, ◌∙◌, true, false, None, Some, sym, ap, subst}
+use Rattle.std.proofs.Common.{◌≡◌, ◌∙◌, ℕ, List, true, false, None, Some, sym, ap, subst}
 use Rattle.std.specs.Prelude.{find, option_map, is_none}
 use Rattle.sqlite.specs.State.{State}
 use Rattle.oci_types.specs.Text.{Text}
@@ -19,10 +19,10 @@ use Rattle.store_statements.proofs.Transactions.{registry, makes}
 use Rattle.store_statements.proofs.WritesAfterReads.{some_found, same_held, makes_same}
 use Rattle.store_statements.proofs.Alone.{commits_as}
 
-pub puts_new : {l : Layout} → (old mid end : State) (name digest bytes : Text) → IsSettled l old → has_repo (world_in l old) name ≡ true → StaysSettled l old mid → find (has_key name digest) (held l old).blobs ≡ None
-    → Commits l end (held l end) × BlobStored (held l mid) (held l end) name digest bytes → SettlesOn l end (put_blob (world_in l old) name digest bytes)
-puts_new {l} old mid end name digest bytes settled there stays fresh it =
-    let stored = subst (λ (t : Tables). BlobStored t (held l end) name digest bytes) (same_held old mid stays) it.1 in
+pub puts_new : {l : Layout} → (old mid end : State) (name digest bytes : Text) {runs : List (ℕ × ℕ)} → IsSettled l old → has_repo (world_in l old) name ≡ true → StaysSettled l old mid → find (has_key name digest) (held l old).blobs ≡ None
+    → Commits l end (held l end) × BlobStored (held l mid) (held l end) name digest bytes runs → SettlesOn l end (put_blob (world_in l old) name digest bytes)
+puts_new {l} old mid end name digest bytes {runs} settled there stays fresh it =
+    let stored = subst (λ (t : Tables). BlobStored t (held l end) name digest bytes runs) (same_held old mid stays) it.1 in
     makes end _ _ (commits_as end _ it.0 stored.others)
     (blob_stored (held l old) (held l end).contents (held l end).places name digest bytes stored.id (held l end).blobs (registry old settled) (sym (has_repo_found (held l old) name) ∙ there) stored.grow stored.there fresh stored.comes)
 

@@ -36,6 +36,7 @@ use Rattle.store_writes.specs.Whole.{only_link, whole_link, if_digest, known_lin
 use Rattle.store_statements.specs.Between.{Outcomes}
 use Rattle.store_statements.proofs.Crashes.{outcome_kept, outcome_then}
 use Rattle.store_statements.proofs.BlobLinks.{link_came}
+use Rattle.store_statements.proofs.PlacesKept.{no_runs}
 use Rattle.store_statements.proofs.WritesAfterReads.{same_world}
 use Rattle.store_writes.proofs.SessionWrites.{finishes_there, finishes_new}
 use Rattle.store_statements.proofs.WritesAfterReads.{none_found, some_found, same_held}
@@ -98,7 +99,7 @@ as_is w name number digest bytes e = ap (λ o. finish w name number digest (byte
 pub matches_it : (w : World) (name : Text) (number : ℕ) (digest bytes : Text) → session_at w name number ≡ Some bytes → matches digest bytes ≡ true → session_matches w name number digest ≡ true
 matches_it w name number digest bytes e m = ap (λ o. option_map_or (λ b. matches digest b) o false) e ∙ m
 
-finished_from : (t u : Tables) (name : Text) (number : ℕ) (digest bytes : Text) (link : BlobLink) → t.contents link.content.id ≡ Some bytes → link.size ≡ length bytes → WholeEnds t u name number digest link → Finished t u name number digest bytes
+finished_from : (t u : Tables) (name : Text) (number : ℕ) (digest bytes : Text) (link : BlobLink) → t.contents link.content.id ≡ Some bytes → link.size ≡ length bytes → WholeEnds t u name number digest link → Finished t u name number digest bytes []
 finished_from t u name number digest bytes link there size it =
     let ended = sessions_without (of_session name number) t in
     let same : u.contents ≡ t.contents = ap (λ (x : Tables). x.contents) it.others in
@@ -107,6 +108,8 @@ finished_from t u name number digest bytes link there size it =
       id = link.content.id;
       grow = λ i b was. ap (λ c. c i) same ∙ was;
       there = ap (λ c. c link.content.id) same ∙ there;
+      rest = λ i other. ap (λ c. c i) same;
+      placed = no_runs ended u placed (ap (λ (x : Tables). x.packs) it.others);
       comes = subst (λ n. Comes ended.blobs u.blobs (blob_columns name digest n link.content.id)) size it.comes;
       others = it.others ∙ (λ i. record ended { contents = sym same i; places = sym placed i; blobs = u.blobs });
     }
@@ -177,6 +180,11 @@ came_so {Q = Q} (Err fault) came r is f p = subst (λ q. OnOk q Q) (sym is) tt
 pub came_told : {A : Type 0} (made : Result A Fault) (came is_new : Bool) (r : Result Bool Fault) → MatchResult made (λ _. r ≡ Ok came) (λ fault. r ≡ Err fault) → came ≡ is_new → IfOk r (λ b. b ≡ is_new)
 came_told (Ok x) came is_new r is e = subst (λ q. IfOk q (λ b. b ≡ is_new)) (sym is) e
 came_told (Err fault) came is_new r is e = subst (λ q. IfOk q (λ b. b ≡ is_new)) (sym is) tt
+
+-- this is so of the answer
+pub came_by : {A P : Type 0} (Q : Bool → Type 0) (made : Result A Fault) (came : Bool) (r : Result Bool Fault) → MatchResult made (λ _. r ≡ Ok came) (λ fault. r ≡ Err fault) → (P → Q came) → OnOk made P → IfOk r Q
+came_by Q (Ok x) came r is f p = subst (λ q. IfOk q Q) (sym is) (f p)
+came_by Q (Err fault) came r is f p = subst (λ q. IfOk q Q) (sym is) tt
 
 pub came_back : {A : Type 0} (P : Type 0) (made : Result A Fault) (came : Bool) (r : Result Bool Fault) → MatchResult made (λ _. r ≡ Ok came) (λ fault. r ≡ Err fault) → OnErr made P → OnErr r P
 came_back P (Ok x) came r is p = subst (λ q. OnErr q P) (sym is) tt

@@ -10,8 +10,10 @@ pub mod ContentSteps
 pub mod ManifestPuts
 pub mod ContentNaming
 pub mod ContentsFreed
+pub mod PlacesFreed
 pub mod SeveralBlobs
 pub mod BytesStored
 pub mod SessionWrites
 pub mod KnownEnds
 pub mod ContentsStay
+pub mod SomeBytes

@@ -1,15 +1,15 @@
 -- No change touches the schema, or a table beside the registry's.
-use Rattle.std.proofs.Common.{◌≡◌, ◌∙◌, List, [], ◌∷◌, ap, refl}
+use Rattle.std.proofs.Common.{◌≡◌, ◌∙◌, ℕ, List, [], ◌∷◌, ap, refl}
 use Rattle.oci_types.specs.Text.{Text}
 use Rattle.store_contents.specs.Layouts.{Layout, InTables, InPack}
 use Rattle.store_statements.specs.Keys.{has_key}
 use Rattle.store_statements.specs.Tables.{Tables}
 use Rattle.store_statements.specs.Steps.{blobs_without}
 use Rattle.store_writes.specs.declared.change.Change.{Change}
-use Rattle.store_writes.specs.declared.change.Change.TheVariants.{AddBlob, AddLink, TakeBlob, TakeBlobs, AddManifest, SetTag, TakeManifest, TakeTag, SetLevel, TakeLevel, TakeLevels, SetRepo, DropRepo, Session, Clear}
+use Rattle.store_writes.specs.declared.change.Change.TheVariants.{AddBlob, AddLink, TakeBlob, TakeBlobs, AddManifest, SetTag, TakeManifest, TakeTag, SetLevel, TakeLevel, TakeLevels, SetRepo, DropRepo, Session, Clear, ClearPack}
 use Rattle.store_writes.specs.declared.session_change.SessionChange.{SessionChange}
 use Rattle.store_writes.specs.declared.session_change.SessionChange.TheVariants.{Open, Append, Finish, Link, Take, TakeAll}
-use Rattle.store_writes.specs.Changing.{Makes, IsInTables}
+use Rattle.store_writes.specs.Changing.{Makes, IsInPack, IsInTables}
 use Rattle.store_writes.specs.Deleting.{without_blob_links}
 use Rattle.store_writes.specs.SessionChanging.{SessionMakes}
 
@@ -41,8 +41,14 @@ schema_kept l (SetRepo repo quota) t u it = ap (λ (x : Tables). x.beside) it.ot
 schema_kept l (DropRepo repo) t u it = ap (λ (x : Tables). x.beside) it
 schema_kept l (Session change) t u it = session_kept l change t u it
 schema_kept l (Clear alloc) t u it = ap (λ (x : Tables). x.beside) it.others
+schema_kept l (ClearPack alloc) t u it = ap (λ (x : Tables). x.beside) it.0.others
 
 -- what is so where bytes are in the tables
 pub only_in_tables : (P : Layout → Type 0) → P InTables → (l : Layout) → IsInTables l → P l
 only_in_tables P p InTables is = p
 only_in_tables P p (InPack file) is = absurd is
+
+-- and where they are in a pack
+pub only_in_pack : (P : Layout → Type 0) → ((file : List ℕ) → P (InPack file)) → (l : Layout) → IsInPack l → P l
+only_in_pack P p InTables is = absurd is
+only_in_pack P p (InPack file) is = p file

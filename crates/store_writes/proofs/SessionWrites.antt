@@ -63,10 +63,10 @@ piece_free {l} old mid name number size settled stays sized =
     let reach : Reach 0 (pieces_of (held l old).pieces name number) size = subst (Reach 0 (pieces_of (held l old).pieces name number)) (sym found.2) (upload_reach (held l old) name number found.0 (registry old settled) found.1) in
     ap (λ (t : Tables). find (has_start name number size) t.pieces) (same_held old mid stays) ∙ rows.piece_fresh (held l old).contents (held l old).pieces name number size settled.agree.pieces reach
 
-pub appends : {l : Layout} → (old mid end : State) (name : Text) (number size : ℕ) (bytes : Text) → IsSettled l old → StaysSettled l old mid → Some size ≡ option_map (λ r. natural_at r 3) (find (of_session name number) (held l old).uploads) → 0 < length bytes
-    → Commits l end (held l end) × Appended (held l mid) (held l end) name number size bytes → SettlesOn l end (append (world_in l old) name number bytes)
-appends {l} old mid end name number size bytes settled stays sized more it =
-    let added = subst (λ (t : Tables). Appended t (held l end) name number size bytes) (same_held old mid stays) it.1 in
+pub appends : {l : Layout} → (old mid end : State) (name : Text) (number size : ℕ) (bytes : Text) {runs : List (ℕ × ℕ)} → IsSettled l old → StaysSettled l old mid → Some size ≡ option_map (λ r. natural_at r 3) (find (of_session name number) (held l old).uploads) → 0 < length bytes
+    → Commits l end (held l end) × Appended (held l mid) (held l end) name number size bytes runs → SettlesOn l end (append (world_in l old) name number bytes)
+appends {l} old mid end name number size bytes {runs} settled stays sized more it =
+    let added = subst (λ (t : Tables). Appended t (held l end) name number size bytes runs) (same_held old mid stays) it.1 in
     makes end _ _ (commits_as end _ it.0 added.others)
     (appended (held l old) (held l end).contents (held l end).places name number size bytes added.id (held l end).pieces (registry old settled) (sym sized) more added.grow added.there added.comes)
 
@@ -79,10 +79,10 @@ finishes_there {l} old mid end name number digest bytes link settled stays e c =
     makes end _ _ (subst (λ (t : Tables). Commits l end (sessions_without (of_session name number) t)) (same_held old mid stays) c)
     (finished_there (held l old) name number digest bytes found.0 (registry old settled) found.1)
 
-pub finishes_new : {l : Layout} → (old mid end : State) (name : Text) (number : ℕ) (digest bytes : Text) → IsSettled l old → is_some (session_at (world_in l old) name number) ≡ true → StaysSettled l old mid → find (has_key name digest) (held l old).blobs ≡ None
-    → Commits l end (held l end) × Finished (held l mid) (held l end) name number digest bytes → SettlesOn l end (finish (world_in l old) name number digest bytes)
-finishes_new {l} old mid end name number digest bytes settled there stays fresh it =
-    let stored = subst (λ (t : Tables). Finished t (held l end) name number digest bytes) (same_held old mid stays) it.1 in
+pub finishes_new : {l : Layout} → (old mid end : State) (name : Text) (number : ℕ) (digest bytes : Text) {runs : List (ℕ × ℕ)} → IsSettled l old → is_some (session_at (world_in l old) name number) ≡ true → StaysSettled l old mid → find (has_key name digest) (held l old).blobs ≡ None
+    → Commits l end (held l end) × Finished (held l mid) (held l end) name number digest bytes runs → SettlesOn l end (finish (world_in l old) name number digest bytes)
+finishes_new {l} old mid end name number digest bytes {runs} settled there stays fresh it =
+    let stored = subst (λ (t : Tables). Finished t (held l end) name number digest bytes runs) (same_held old mid stays) it.1 in
     makes end _ _ (commits_as end _ it.0 stored.others)
     (finished_new (held l old) (held l end).contents (held l end).places name number digest bytes stored.id (held l end).blobs (registry old settled) (has_repo old name number settled there) stored.grow stored.there fresh stored.comes)
 

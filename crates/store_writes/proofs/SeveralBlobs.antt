@@ -9,6 +9,7 @@ use Rattle.store_schema.proofs.Selects.{commit_then, survives_both}
 use Rattle.store_contents.specs.Layouts.{Layout}
 use Rattle.store_statements.specs.Keys.{has_key}
 use Rattle.store_statements.specs.Tables.{Tables}
+use Rattle.store_statements.specs.PlaceChanges.{KeepsPlaces}
 use Rattle.store_statements.specs.World.{world_of}
 use Rattle.store_statements.specs.Registry.{IsRegistry}
 use Rattle.store_statements.proofs.BlobWorlds.{blob_taken, update_same}
@@ -30,6 +31,11 @@ blobs_taken t name (digest ∷ digests) is =
 pub links_leave : (name : Text) (digests : List Text) (t : Tables) → (without_blob_links name digests t).contents ≡ t.contents
 links_leave name [] t = refl
 links_leave name (digest ∷ digests) t = links_leave name digests (blobs_without (has_key name digest) t)
+
+-- and so do places
+pub links_keep : (name : Text) (digests : List Text) (t : Tables) → KeepsPlaces t (without_blob_links name digests t)
+links_keep name [] t = record { places = refl; packs = refl }
+links_keep name (digest ∷ digests) t = let rest = links_keep name digests (blobs_without (has_key name digest) t) in record { places = rest.places; packs = rest.packs }
 
 -- ---- one link after another
 

@@ -3,7 +3,7 @@ use Rattle.std.specs.Prelude.{◌≡◌, ◌<◌, ◌+◌, ◌^◌, ⊤, true, f
 use Rattle.sha2.specs.Sha256.{sha256}
 use Rattle.oci_types.specs.Digest.{matches}
 use Rattle.store_contents.specs.Layouts.{Layout}
-use Rattle.store_places.specs.Source.{Fits, IfBytes, Suits, size_in, text_in}
+use Rattle.store_places.specs.Source.{Fits, IfBytes, Suits, runs_in, size_in, text_in}
 use Rattle.store_statements.specs.Keys.{of_first, of_session, has_key, has_start}
 use Rattle.store_statements.specs.Tables.{Tables}
 use Rattle.store_statements.specs.Steps.{sessions_without, SessionOpened, Appended, Finished}
@@ -44,9 +44,9 @@ SessionAsks (TakeAll repo) t = ⊤
 abbrev pub SessionMakes : Layout → SessionChange → Tables → Tables → Type 0
 SessionMakes l (Open repo number) t u = SessionOpened t u repo.now number
 SessionMakes l (Append alloc repo number size source hash) t u =
-    Appended t u repo.now number size (text_in l source)
+    Appended t u repo.now number size (text_in l source) (runs_in source)
 SessionMakes l (Finish alloc repo number digest source) t u =
-    Finished t u repo.now number digest.now (text_in l source)
+    Finished t u repo.now number digest.now (text_in l source) (runs_in source)
 SessionMakes l (Link repo number digest link) t u = WholeEnds t u repo.now number digest.now link
 SessionMakes l (Take repo number) t u = u ≡ sessions_without (of_session repo.now number) t
 SessionMakes l (TakeAll repo) t u = u ≡ sessions_without (of_first repo.now) t

@@ -6,6 +6,7 @@ ghost use Rattle.store_contents.specs.Layouts.{Layout};
 ghost use Rattle.store_statements.specs.Keys.{has_key};
 ghost use Rattle.store_statements.specs.Between.{CrashLeaves, GoesBack, MakesWorld, Relates, StaysOnMemory};
 ghost use Rattle.store_statements.specs.Clauses.{Lasts, TablesHave, WorldHas};
+ghost use Rattle.store_statements.specs.PlaceChanges.{KeepsPlaces};
 
 use crate::change::Change;
 use crate::changing::make;
@@ -27,6 +28,9 @@ fn mount_link<S: Alter>(
     ensures stays { (l : Layout)
         → TablesHave S.Store l conn.old (λ t. find (has_key to.now digest.now) t.blobs ≡ None)
         → Relates S.Store l conn.old conn.new result (λ t u. u.contents ≡ t.contents) }
+    ensures places { (l : Layout)
+        → TablesHave S.Store l conn.old (λ t. find (has_key to.now digest.now) t.blobs ≡ None)
+        → Relates S.Store l conn.old conn.new result KeepsPlaces }
     ensures memory { (l : Layout)
         → TablesHave S.Store l conn.old (λ t. find (has_key to.now digest.now) t.blobs ≡ None)
         → StaysOnMemory S.Store l conn.old conn.new result }
@@ -65,6 +69,7 @@ pub fn mount<S: Alter>(
         → MakesWorld S.Store l conn.old conn.new result (λ w. mount w from.now to.now digest.now) }
     ensures stays { (l : Layout)
         → Relates S.Store l conn.old conn.new result (λ t u. u.contents ≡ t.contents) }
+    ensures places { (l : Layout) → Relates S.Store l conn.old conn.new result KeepsPlaces }
     ensures memory { (l : Layout) → StaysOnMemory S.Store l conn.old conn.new result }
     ensures back { (l : Layout) → GoesBack S.Store l conn.old conn.new result }
     ensures crash { (l : Layout) → WorldHas S.Store l conn.old (λ w. has_repo w to.now ≡ true)

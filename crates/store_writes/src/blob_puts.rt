@@ -6,7 +6,8 @@ ghost use Rattle.registry_model.specs.Lookups.{blob_at, put_blob};
 ghost use Rattle.store_contents.specs.Layouts.{Layout};
 ghost use Rattle.store_places.specs.Source.{Fits, IfBytes, Suits, size_in, text_in};
 ghost use Rattle.store_statements.specs.Changes.{Grow};
-ghost use Rattle.store_statements.specs.Between.{CrashLeaves, GoesBack, MakesWorld, Relates, StaysOnMemory, Tells};
+ghost use Rattle.store_statements.specs.PlaceChanges.{PutsContent, PutsPlaces};
+ghost use Rattle.store_statements.specs.Between.{CrashLeaves, GoesBack, MakesWorld, Relates, RelatesBy, StaysOnMemory, Tells};
 ghost use Rattle.store_statements.specs.Clauses.{Lasts, WorldHas};
 
 use crate::change::Change;
@@ -36,6 +37,10 @@ pub fn put_blob<S: Alter>(
         (λ w came. came ≡ is_none (blob_at w repo.now digest.now)) }
     ensures grows { (l : Layout) → Suits l source.entry
         → Relates S.Store l conn.old conn.new result (λ t u. Grow t.contents u.contents) }
+    ensures places { (l : Layout) → Suits l source.entry
+        → RelatesBy S.Store l conn.old conn.new result (PutsPlaces source.entry) }
+    ensures contents { (l : Layout) → Suits l source.entry
+        → RelatesBy S.Store l conn.old conn.new result (PutsContent (text_in l source.entry)) }
     ensures memory { (l : Layout) → Suits l source.entry → StaysOnMemory S.Store l conn.old conn.new result }
     ensures back { (l : Layout) → Suits l source.entry → GoesBack S.Store l conn.old conn.new result }
     ensures crash { (l : Layout) → Suits l source.entry

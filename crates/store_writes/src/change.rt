@@ -88,4 +88,8 @@ pub(crate) enum Change<'a> {
     Clear {
         alloc: Global,
     },
+    /// Each content goes that nothing names, with its places in the pack.
+    ClearPack {
+        alloc: Global,
+    },
 }

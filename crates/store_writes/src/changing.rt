@@ -1,5 +1,5 @@
 //! Each change is one transaction.
-ghost use Rattle.std.specs.Prelude.{◌≡◌};
+ghost use Rattle.std.specs.Prelude.{◌≡◌, Ok, Err, MatchResult};
 ghost use Rattle.sqlite.specs.State.{HasCleanDisk, KeepsCommit};
 ghost use Rattle.sqlite.specs.Held.{state};
 ghost use Rattle.store_contents.specs.Layouts.{Layout};
@@ -14,6 +14,7 @@ use crate::content_clearing::clear_contents;
 use crate::deletions::{take_links_to, take_manifest};
 use crate::grant_changes::put_level;
 use crate::manifest_puts::{add_tagged, put_tag_if};
+use crate::pack_clearing::clear_placed;
 use crate::quota_changes::put_quota;
 use crate::repo_removal::drop_rows;
 use crate::session_changing::change_session;
@@ -73,6 +74,7 @@ fn work<S: Alter>(tx: &mut Transaction<'_, S>, change: Change<'_>) -> Result<(),
         Change::DropRepo { repo } => drop_rows(tx, repo),
         Change::Session(session) => change_session(tx, session),
         Change::Clear { alloc } => clear_contents(alloc, tx),
+        Change::ClearPack { alloc } => clear_placed(alloc, tx),
     }
 }
 
@@ -91,4 +93,14 @@ pub(crate) fn make<S: Alter>(conn: &mut Connection<S>, change: Change<'_>) -> Re
 {
     let done = alone!(conn, tx, work(&mut tx, change));
     checked(conn, done)
+}
+
+/// The answer to a change that was made: whether bytes came by it.
+pub(crate) fn tell_came(made: Result<(), Fault>, came: bool) -> Result<bool, Fault>
+    ensures { MatchResult made (λ _. result ≡ Ok came) (λ fault. result ≡ Err fault) }
+{
+    match made {
+        Ok(()) => Ok(came),
+        Err(fault) => Err(fault),
+    }
 }

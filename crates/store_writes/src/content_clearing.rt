@@ -1,5 +1,5 @@
 //! What nothing names is freed.
-ghost use Rattle.std.specs.Prelude.{◌≡◌, ◌||◌, ◌∷◌, [], ℤ, None, OnOk, IsOkAnd, if◌then◌else◌};
+ghost use Rattle.std.specs.Prelude.{◌≡◌, ◌||◌, ◌∷◌, [], ℤ, None, OnOk, IsOkAnd, IfOk, if◌then◌else◌};
 ghost use Rattle.std.specs.BTreeSet.{keys};
 ghost use Rattle.std.specs.Ordering.{int_eq};
 ghost use Rattle.sqlite.specs.State.{HasCleanDisk};
@@ -8,7 +8,7 @@ ghost use Rattle.store_contents.specs.Layouts.{Layout, InTables};
 ghost use Rattle.store_statements.specs.Between.{CrashLeaves, GoesBack, MakesWorld, Relates, StaysOnMemory};
 ghost use Rattle.store_statements.specs.Clauses.{ChangesNothingInside, KeepsInside, Lasts, LastsUncommitted, StepsInside};
 ghost use Rattle.store_statements.specs.Held.{IsReady, held};
-ghost use Rattle.store_writes.specs.Naming.{is_among, is_named, ContentsGone, Cleared};
+ghost use Rattle.store_writes.specs.Naming.{AreUnnamed, is_among, is_named, ContentsGone, Cleared};
 
 use crate::change::Change;
 use crate::changing::make;
@@ -100,6 +100,24 @@ fn take_contents<S: Alter>(tx: &mut Transaction<'_, S>, ids: &[ContentId]) -> Re
     Ok(())
 }
 
+/// The ids of the contents that nothing names, each once, wherever their bytes are. Nothing changes.
+pub(crate) fn unnamed<S: Alter>(
+    alloc: Global,
+    tx: &mut Transaction<'_, S>,
+) -> Result<Vec<ContentId>, Fault>
+    ensures unnamed { (l : Layout) → HasCleanDisk (state S.Store tx.new.conn.now)
+        → IsReady l (state S.Store tx.old.conn.now)
+        → IfOk result (λ ids. AreUnnamed l (state S.Store tx.old.conn.now) ids.items) }
+    ensures same { (l : Layout) → ChangesNothingInside S.Store l tx.old.conn.now tx.new.conn.now result }
+    ensures kept { (l : Layout) → KeepsInside S.Store l tx.old.conn.now tx.new.conn.now }
+    ensures same_reference { tx.new.conn.ghost_name ≡ tx.old.conn.ghost_name }
+    ensures survives { LastsUncommitted S.Store tx.old.conn.now tx.new.conn.now }
+{
+    let mut set = BTreeSet::new(alloc);
+    add_named(alloc, tx, &mut set)?;
+    unlinked(alloc, tx, &set)
+}
+
 /// Takes out each content that nothing names.
 pub(crate) fn clear_contents<S: Alter>(
     alloc: Global,
@@ -111,9 +129,7 @@ pub(crate) fn clear_contents<S: Alter>(
     ensures same_reference { tx.new.conn.ghost_name ≡ tx.old.conn.ghost_name }
     ensures survives { LastsUncommitted S.Store tx.old.conn.now tx.new.conn.now }
 {
-    let mut set = BTreeSet::new(alloc);
-    add_named(alloc, tx, &mut set)?;
-    let ids = unlinked(alloc, tx, &set)?;
+    let ids = unnamed(alloc, tx)?;
     take_contents(tx, &ids)
 }
 

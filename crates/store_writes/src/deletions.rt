@@ -6,6 +6,7 @@ ghost use Rattle.store_contents.specs.Layouts.{Layout};
 ghost use Rattle.store_statements.specs.Between.{CrashLeaves, GoesBack, MakesWorld, Relates, StaysOnMemory};
 ghost use Rattle.store_statements.specs.Clauses.{Changes, KeepsInside, Lasts, LastsUncommitted};
 ghost use Rattle.store_statements.specs.Steps.{without_manifest};
+ghost use Rattle.store_statements.specs.PlaceChanges.{KeepsPlaces};
 ghost use Rattle.store_writes.specs.Deleting.{without_blob_links};
 
 use crate::change::Change;
@@ -26,6 +27,7 @@ pub fn delete_tag<S: Alter>(
         → MakesWorld S.Store l conn.old conn.new result (λ w. delete_tag w repo.now tag.now) }
     ensures stays { (l : Layout)
         → Relates S.Store l conn.old conn.new result (λ t u. u.contents ≡ t.contents) }
+    ensures places { (l : Layout) → Relates S.Store l conn.old conn.new result KeepsPlaces }
     ensures memory { (l : Layout) → StaysOnMemory S.Store l conn.old conn.new result }
     ensures back { (l : Layout) → GoesBack S.Store l conn.old conn.new result }
     ensures crash { (l : Layout)
@@ -51,6 +53,7 @@ pub fn delete_blob<S: Alter>(
         → MakesWorld S.Store l conn.old conn.new result (λ w. delete_blob w repo.now digest.now) }
     ensures stays { (l : Layout)
         → Relates S.Store l conn.old conn.new result (λ t u. u.contents ≡ t.contents) }
+    ensures places { (l : Layout) → Relates S.Store l conn.old conn.new result KeepsPlaces }
     ensures memory { (l : Layout) → StaysOnMemory S.Store l conn.old conn.new result }
     ensures back { (l : Layout) → GoesBack S.Store l conn.old conn.new result }
     ensures crash { (l : Layout)
@@ -94,6 +97,7 @@ pub fn delete_blobs<S: Alter>(
         → MakesWorld S.Store l conn.old conn.new result (λ w. delete_blobs w repo.now digests.now) }
     ensures stays { (l : Layout)
         → Relates S.Store l conn.old conn.new result (λ t u. u.contents ≡ t.contents) }
+    ensures places { (l : Layout) → Relates S.Store l conn.old conn.new result KeepsPlaces }
     ensures memory { (l : Layout) → StaysOnMemory S.Store l conn.old conn.new result }
     ensures back { (l : Layout) → GoesBack S.Store l conn.old conn.new result }
     ensures crash { (l : Layout)
@@ -135,6 +139,7 @@ pub fn delete_manifest<S: Alter>(
         → MakesWorld S.Store l conn.old conn.new result (λ w. delete_manifest w repo.now digest.now) }
     ensures stays { (l : Layout)
         → Relates S.Store l conn.old conn.new result (λ t u. u.contents ≡ t.contents) }
+    ensures places { (l : Layout) → Relates S.Store l conn.old conn.new result KeepsPlaces }
     ensures memory { (l : Layout) → StaysOnMemory S.Store l conn.old conn.new result }
     ensures back { (l : Layout) → GoesBack S.Store l conn.old conn.new result }
     ensures crash { (l : Layout) → CrashLeaves S.Store l conn.old conn.new result

@@ -5,6 +5,7 @@ ghost use Rattle.registry_model.specs.Command.{grant, revoke, revoke_all};
 ghost use Rattle.store_contents.specs.Layouts.{Layout};
 ghost use Rattle.store_statements.specs.Between.{CrashLeaves, GoesBack, MakesWorld, Relates, StaysOnMemory};
 ghost use Rattle.store_statements.specs.Clauses.{KeepsInside, Lasts, LastsUncommitted, StepsInside, WorldHas};
+ghost use Rattle.store_statements.specs.PlaceChanges.{KeepsPlaces};
 ghost use Rattle.store_writes.specs.Puts.{LevelIsPut};
 
 use crate::change::Change;
@@ -24,6 +25,7 @@ pub fn revoke<S: Alter>(
         → MakesWorld S.Store l conn.old conn.new result (λ w. revoke w token.now name.now) }
     ensures stays { (l : Layout)
         → Relates S.Store l conn.old conn.new result (λ t u. u.contents ≡ t.contents) }
+    ensures places { (l : Layout) → Relates S.Store l conn.old conn.new result KeepsPlaces }
     ensures memory { (l : Layout) → StaysOnMemory S.Store l conn.old conn.new result }
     ensures back { (l : Layout) → GoesBack S.Store l conn.old conn.new result }
     ensures crash { (l : Layout)
@@ -45,6 +47,7 @@ pub fn revoke_all<S: Alter>(conn: &mut Connection<S>, token: &Token) -> Result<(
         → MakesWorld S.Store l conn.old conn.new result (λ w. revoke_all w token.now) }
     ensures stays { (l : Layout)
         → Relates S.Store l conn.old conn.new result (λ t u. u.contents ≡ t.contents) }
+    ensures places { (l : Layout) → Relates S.Store l conn.old conn.new result KeepsPlaces }
     ensures memory { (l : Layout) → StaysOnMemory S.Store l conn.old conn.new result }
     ensures back { (l : Layout) → GoesBack S.Store l conn.old conn.new result }
     ensures crash { (l : Layout)
@@ -91,6 +94,7 @@ pub fn grant<S: Alter>(
         → MakesWorld S.Store l conn.old conn.new result (λ w. grant w token.now name.now level) }
     ensures stays { (l : Layout)
         → Relates S.Store l conn.old conn.new result (λ t u. u.contents ≡ t.contents) }
+    ensures places { (l : Layout) → Relates S.Store l conn.old conn.new result KeepsPlaces }
     ensures memory { (l : Layout) → StaysOnMemory S.Store l conn.old conn.new result }
     ensures back { (l : Layout) → GoesBack S.Store l conn.old conn.new result }
     ensures crash { (l : Layout) → WorldHas S.Store l conn.old (λ w. has_repo w name.now ≡ true)

@@ -1,5 +1,5 @@
 //! An upload session ends whose bytes are known unread: its content becomes a blob's.
-ghost use Rattle.std.specs.Prelude.{◌≡◌, ◌<◌, ◌^◌, find, is_some, is_none, None, Some, Ok, Err, IfOk, IfSome, MatchResult};
+ghost use Rattle.std.specs.Prelude.{◌≡◌, ◌<◌, ◌^◌, find, is_some, is_none, None, Some, IfOk, IfSome};
 ghost use Rattle.sqlite.specs.State.{HasCleanDisk};
 ghost use Rattle.sqlite.specs.Held.{state};
 ghost use Rattle.registry_model.specs.Lookups.{blob_at, session_size_at};
@@ -11,9 +11,10 @@ ghost use Rattle.store_statements.specs.Clauses.{KeepsInside, Lasts, LastsUncomm
 ghost use Rattle.store_statements.specs.Held.{IsSettled};
 ghost use Rattle.store_writes.specs.Whole.{known_link, CrashEnds, DoneWhereSo, WholeEnds};
 ghost use Rattle.store_statements.specs.StepsFrom.{StepsFrom};
+ghost use Rattle.store_statements.specs.PlaceChanges.{KeepsPlaces};
 
 use crate::change::Change;
-use crate::changing::make;
+use crate::changing::{make, tell_came};
 use crate::session_change::SessionChange;
 use crate::session_changes::take_session;
 use crate::whole_sessions::find_known;
@@ -51,16 +52,6 @@ pub(crate) fn end_whole<S: Alter>(
 {
     match take_session(tx, repo, number) {
         Ok(()) => add_blob_link(tx, repo, digest, link.size, link.content),
-        Err(fault) => Err(fault),
-    }
-}
-
-/// The answer to a change that was made: whether a blob came by it.
-fn tell_came(made: Result<(), Fault>, came: bool) -> Result<bool, Fault>
-    ensures { MatchResult made (λ _. result ≡ Ok came) (λ fault. result ≡ Err fault) }
-{
-    match made {
-        Ok(()) => Ok(came),
         Err(fault) => Err(fault),
     }
 }
@@ -132,6 +123,7 @@ pub fn finish_known<S: Alter>(
         (λ e. (session_size_at w repo.now number ≡ Some e.size)
         × (e.came ≡ is_none (blob_at w repo.now digest.now)))) }
     ensures stays { Relates S.Store InTables conn.old conn.new result (λ t u. u.contents ≡ t.contents) }
+    ensures places { Relates S.Store InTables conn.old conn.new result KeepsPlaces }
     ensures memory { StaysOnMemory S.Store InTables conn.old conn.new result }
     ensures back { GoesBack S.Store InTables conn.old conn.new result }
     ensures crash { CrashEnds S.Store InTables conn.old conn.new result

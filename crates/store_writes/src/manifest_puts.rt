@@ -1,11 +1,11 @@
 //! A manifest is put, and a tag set to it.
-ghost use Rattle.std.specs.Prelude.{◌≡◌, ◌<◌, ◌^◌, true, find, None, Ok};
+ghost use Rattle.std.specs.Prelude.{◌≡◌, ◌<◌, ◌^◌, true, find, is_none, None, Ok};
 ghost use Rattle.sqlite.specs.State.{HasCleanDisk, KeepsCommit};
 ghost use Rattle.sqlite.specs.Held.{state};
 ghost use Rattle.oci_types.specs.Manifest.{shown, manifest_in};
 ghost use Rattle.oci_types.specs.Digest.{matches};
 ghost use Rattle.registry_model.specs.Ask as ask;
-ghost use Rattle.registry_model.specs.Lookups.{put_manifest};
+ghost use Rattle.registry_model.specs.Lookups.{manifest_at, put_manifest};
 ghost use Rattle.registry_model.specs.World.{has_repo};
 ghost use Rattle.store_contents.specs.Layouts.{Layout};
 ghost use Rattle.store_places.specs.Source.{Fits, IfBytes, Suits, size_in, text_in};
@@ -13,12 +13,13 @@ ghost use Rattle.store_statements.specs.Keys.{has_key};
 ghost use Rattle.store_statements.specs.Registry.{is_repo};
 ghost use Rattle.store_writes.specs.Worlds.{KeepsWhole, TurnsFresh, TurnsThere, IsWhole, tagged};
 ghost use Rattle.store_statements.specs.Changes.{Grow};
-ghost use Rattle.store_statements.specs.Between.{CrashLeaves, GoesBack, MakesWorld, Relates, StaysOnMemory};
+ghost use Rattle.store_statements.specs.PlaceChanges.{PutsContent, PutsPlaces};
+ghost use Rattle.store_statements.specs.Between.{CrashLeaves, GoesBack, MakesWorld, Relates, RelatesBy, StaysOnMemory, Tells};
 ghost use Rattle.store_statements.specs.Clauses.{Lasts, LastsUncommitted, WorldHas};
 ghost use Rattle.store_statements.specs.Held.{held};
 
 use crate::change::Change;
-use crate::changing::make;
+use crate::changing::{make, tell_came};
 use oci_types::{Digest, Fault, Manifest, RepoName, Tag};
 use sqlite::{Alter, Connection, Transaction};
 use std::alloc::Global;
@@ -78,7 +79,7 @@ fn add_manifest<S: Alter>(
     requires matching { IfBytes (λ bytes. matches digest.now bytes ≡ true) source }
     ensures made { (l : Layout) → Suits l source.entry
         → manifest_in (text_in l source.entry) ≡ Ok (shown manifest.now)
-        → TurnsFresh S.Store l tx.old.conn.now tx.new.conn.now result repo.now digest.now
+        → TurnsFresh S.Store l tx.old.conn.now tx.new.conn.now result repo.now digest.now source.entry
         (λ w. put_manifest w repo.now digest.now (text_in l source.entry) None) }
     ensures kept { (l : Layout) → Suits l source.entry
         → KeepsWhole S.Store l tx.old.conn.now tx.new.conn.now }
@@ -113,7 +114,7 @@ pub(crate) fn add_tagged<S: Alter>(
     requires matching { IfBytes (λ bytes. matches digest.now bytes ≡ true) source }
     ensures made { (l : Layout) → Suits l source.entry
         → manifest_in (text_in l source.entry) ≡ Ok (shown manifest.now)
-        → TurnsFresh S.Store l tx.old.conn.now tx.new.conn.now result repo.now digest.now
+        → TurnsFresh S.Store l tx.old.conn.now tx.new.conn.now result repo.now digest.now source.entry
         (λ w. put_manifest w repo.now digest.now (text_in l source.entry) (ask.text_in tag.entry)) }
     ensures kept { (l : Layout) → Suits l source.entry
         → manifest_in (text_in l source.entry) ≡ Ok (shown manifest.now)
@@ -128,8 +129,8 @@ pub(crate) fn add_tagged<S: Alter>(
     put_tag_if(tx, repo, tag, digest)
 }
 
-/// Adds a manifest, where the repository has not its digest, and sets the tag to it, if one is given.
-/// `manifest` is what the bytes read as.
+/// Adds a manifest, where the repository has not its digest, sets the tag to it, if one is given, and answers
+/// whether it came. `manifest` is what the bytes read as.
 pub fn put_manifest<S: Alter>(
     alloc: Global,
     conn: &mut Connection<S>,
@@ -138,7 +139,7 @@ pub fn put_manifest<S: Alter>(
     source: Source<'_>,
     manifest: &Manifest,
     tag: Option<&Tag>,
-) -> Result<(), Fault>
+) -> Result<bool, Fault>
     requires right { Fits source }
     requires fits { size_in source < 2 ^ 63 }
     requires matching { IfBytes (λ bytes. matches digest.now bytes ≡ true) source }
@@ -147,10 +148,20 @@ pub fn put_manifest<S: Alter>(
         → WorldHas S.Store l conn.old (λ w. has_repo w repo.now ≡ true)
         → MakesWorld S.Store l conn.old conn.new result
         (λ w. put_manifest w repo.now digest.now (text_in l source.entry) (ask.text_in tag.entry)) }
+    ensures came { (l : Layout) → Tells S.Store l conn.old conn.new result
+        (λ w came. came ≡ is_none (manifest_at w repo.now digest.now)) }
     ensures grows { (l : Layout) → Suits l source.entry
         → manifest_in (text_in l source.entry) ≡ Ok (shown manifest.now)
         → WorldHas S.Store l conn.old (λ w. has_repo w repo.now ≡ true)
         → Relates S.Store l conn.old conn.new result (λ t u. Grow t.contents u.contents) }
+    ensures places { (l : Layout) → Suits l source.entry
+        → manifest_in (text_in l source.entry) ≡ Ok (shown manifest.now)
+        → WorldHas S.Store l conn.old (λ w. has_repo w repo.now ≡ true)
+        → RelatesBy S.Store l conn.old conn.new result (PutsPlaces source.entry) }
+    ensures contents { (l : Layout) → Suits l source.entry
+        → manifest_in (text_in l source.entry) ≡ Ok (shown manifest.now)
+        → WorldHas S.Store l conn.old (λ w. has_repo w repo.now ≡ true)
+        → RelatesBy S.Store l conn.old conn.new result (PutsContent (text_in l source.entry)) }
     ensures memory { (l : Layout) → Suits l source.entry
         → manifest_in (text_in l source.entry) ≡ Ok (shown manifest.now)
         → WorldHas S.Store l conn.old (λ w. has_repo w repo.now ≡ true)
@@ -169,18 +180,18 @@ pub fn put_manifest<S: Alter>(
     let repo = repo.as_str();
     let digest = digest.as_str();
     match find_manifest_link(conn, repo, digest) {
-        Ok(Some(_)) => make(conn, Change::SetTag { repo, tag, digest }),
-        Ok(None) => make(
-            conn,
-            Change::AddManifest {
+        Ok(Some(_)) => tell_came(make(conn, Change::SetTag { repo, tag, digest }), false),
+        Ok(None) => {
+            let pushed = Change::AddManifest {
                 alloc,
                 repo,
                 digest,
                 source,
                 manifest,
                 tag,
-            },
-        ),
+            };
+            tell_came(make(conn, pushed), true)
+        }
         Err(fault) => Err(fault),
     }
 }

@@ -4,6 +4,7 @@ ghost use Rattle.registry_model.specs.Command.{set_repo};
 ghost use Rattle.store_contents.specs.Layouts.{Layout};
 ghost use Rattle.store_statements.specs.Between.{CrashLeaves, GoesBack, MakesWorld, Relates, StaysOnMemory};
 ghost use Rattle.store_statements.specs.Clauses.{KeepsInside, Lasts, LastsUncommitted, StepsInside};
+ghost use Rattle.store_statements.specs.PlaceChanges.{KeepsPlaces};
 ghost use Rattle.store_writes.specs.Puts.{QuotaIsPut};
 
 use crate::change::Change;
@@ -45,6 +46,7 @@ pub fn set_repo<S: Alter>(
         → MakesWorld S.Store l conn.old conn.new result (λ w. set_repo w name.now quota.bytes) }
     ensures stays { (l : Layout)
         → Relates S.Store l conn.old conn.new result (λ t u. u.contents ≡ t.contents) }
+    ensures places { (l : Layout) → Relates S.Store l conn.old conn.new result KeepsPlaces }
     ensures memory { (l : Layout) → StaysOnMemory S.Store l conn.old conn.new result }
     ensures back { (l : Layout) → GoesBack S.Store l conn.old conn.new result }
     ensures crash { (l : Layout)

@@ -9,6 +9,7 @@ ghost use Rattle.store_statements.specs.Clauses.{KeepsInside, Lasts, LastsUncomm
 ghost use Rattle.store_statements.specs.Tables.{IsEmptyBeside};
 ghost use Rattle.store_statements.specs.Held.{IsReady, Becomes, held};
 ghost use Rattle.store_statements.specs.Drops.{dropped};
+ghost use Rattle.store_statements.specs.PlaceChanges.{KeepsPlaces};
 
 use crate::change::Change;
 use crate::changing::make;
@@ -49,6 +50,7 @@ pub fn drop_repo<S: Alter>(conn: &mut Connection<S>, name: &RepoName) -> Result<
     ensures made { (l : Layout) → MakesWorld S.Store l conn.old conn.new result (λ w. drop_repo w name.now) }
     ensures stays { (l : Layout)
         → Relates S.Store l conn.old conn.new result (λ t u. u.contents ≡ t.contents) }
+    ensures places { (l : Layout) → Relates S.Store l conn.old conn.new result KeepsPlaces }
     ensures memory { (l : Layout) → StaysOnMemory S.Store l conn.old conn.new result }
     ensures back { (l : Layout) → GoesBack S.Store l conn.old conn.new result }
     ensures crash { (l : Layout)

@@ -1,12 +1,13 @@
 //! Bytes come behind those of an open upload session.
-ghost use Rattle.std.specs.Prelude.{◌≡◌, ◌<◌, ◌+◌, ◌^◌, true, find, is_some, None, Some, Ok, Err, IfOk, IfErr, IfSome};
+ghost use Rattle.std.specs.Prelude.{◌≡◌, ◌<◌, ◌+◌, ◌^◌, true, find, is_some, nat_lt, None, Some, Ok, Err, IfOk, IfErr, IfSome};
 ghost use Rattle.sha2.specs.Sha256.{sha256};
 ghost use Rattle.registry_model.specs.Lookups.{append, session_at};
 ghost use Rattle.store_contents.specs.Layouts.{Layout};
-ghost use Rattle.store_places.specs.Source.{Fits, IfBytes, Suits, size_in, text_in};
+ghost use Rattle.store_places.specs.Source.{Fits, IfBytes, Suits, runs_in, size_in, text_in};
 ghost use Rattle.store_statements.specs.Keys.{has_start};
 ghost use Rattle.store_statements.specs.StepsFrom.{StepsFrom};
 ghost use Rattle.store_statements.specs.Changes.{Grow};
+ghost use Rattle.store_statements.specs.PlaceChanges.{AddsPlaces, PutsContent};
 ghost use Rattle.store_statements.specs.Between.{CrashLeaves, GoesBack, MakesWorld, Relates, StaysOnMemory};
 ghost use Rattle.store_statements.specs.Clauses.{KeepsInside, Lasts, LastsUncommitted, WorldHas};
 ghost use Rattle.store_statements.specs.Steps.{Appended};
@@ -40,7 +41,7 @@ pub(crate) fn add_bytes<S: Alter>(
     ensures appended { (l : Layout) → Suits l source.entry
         → StepsFrom S.Store l tx.old.conn.now tx.new.conn.now result
         (λ t. find (has_start repo.now number size) t.pieces ≡ None)
-        (λ t u. Appended t u repo.now number size (text_in l source.entry)) }
+        (λ t u. Appended t u repo.now number size (text_in l source.entry) (runs_in source.entry)) }
     ensures kept { (l : Layout) → Suits l source.entry
         → KeepsInside S.Store l tx.old.conn.now tx.new.conn.now }
     ensures same_reference { tx.new.conn.ghost_name ≡ tx.old.conn.ghost_name }
@@ -86,6 +87,11 @@ pub fn append<S: Alter>(
         (λ w. append w repo.now number (text_in l source.entry)) }
     ensures grows { (l : Layout) → Suits l source.entry
         → Relates S.Store l conn.old conn.new result (λ t u. Grow t.contents u.contents) }
+    ensures places { (l : Layout) → Suits l source.entry
+        → Relates S.Store l conn.old conn.new result (AddsPlaces source.entry) }
+    ensures contents { (l : Layout) → Suits l source.entry
+        → Relates S.Store l conn.old conn.new result
+        (PutsContent (text_in l source.entry) (nat_lt 0 (size_in source.entry))) }
     ensures memory { (l : Layout) → Suits l source.entry → StaysOnMemory S.Store l conn.old conn.new result }
     ensures back { (l : Layout) → Suits l source.entry → GoesBack S.Store l conn.old conn.new result }
     ensures crash { (l : Layout) → Suits l source.entry

@@ -11,6 +11,7 @@ ghost use Rattle.store_statements.specs.Between.{CrashLeaves, GoesBack, MakesWor
 ghost use Rattle.store_statements.specs.Clauses.{Changes, KeepsInside, Lasts, LastsUncommitted};
 ghost use Rattle.store_statements.specs.Held.{IsSettled, SettlesOn, world_in};
 ghost use Rattle.store_statements.specs.Steps.{sessions_without, SessionOpened};
+ghost use Rattle.store_statements.specs.PlaceChanges.{KeepsPlaces};
 
 use crate::change::Change;
 use crate::changing::make;
@@ -42,6 +43,7 @@ pub fn drop_sessions<S: Alter>(conn: &mut Connection<S>, repo: &RepoName) -> Res
         → MakesWorld S.Store l conn.old conn.new result (λ w. drop_sessions w repo.now) }
     ensures stays { (l : Layout)
         → Relates S.Store l conn.old conn.new result (λ t u. u.contents ≡ t.contents) }
+    ensures places { (l : Layout) → Relates S.Store l conn.old conn.new result KeepsPlaces }
     ensures memory { (l : Layout) → StaysOnMemory S.Store l conn.old conn.new result }
     ensures back { (l : Layout) → GoesBack S.Store l conn.old conn.new result }
     ensures crash { (l : Layout)
@@ -98,6 +100,7 @@ pub fn open_session<S: Alter>(conn: &mut Connection<S>, repo: &RepoName) -> Resu
         (state S.Store conn.new) (open_session (world_in l (state S.Store conn.old)) repo.now)) }
     ensures stays { (l : Layout)
         → Relates S.Store l conn.old conn.new result (λ t u. u.contents ≡ t.contents) }
+    ensures places { (l : Layout) → Relates S.Store l conn.old conn.new result KeepsPlaces }
     ensures memory { (l : Layout) → StaysOnMemory S.Store l conn.old conn.new result }
     ensures back { (l : Layout) → GoesBack S.Store l conn.old conn.new result }
     ensures crash { (l : Layout)

@@ -1,7 +1,6 @@
-use Rattle.std.proofs.Common.{◌≡◌, List, ℕ, inl, inr, sym, subst, IsTrue}
+use Rattle.std.proofs.Common.{List, ℕ, inl, inr, subst, IsTrue}
 use Rattle.std.proofs.lemmas.Result.{err_from_is_err_and}
-use Rattle.registry_pack.specs.declared.extent.Extent.{Extent}
-use Rattle.registry_pack.specs.declared.head.HeadCopy.TheVariants.{First, Second}
+use Rattle.registry_pack.specs.declared.head.HeadCopy.TheVariants.{Second}
 use Rattle.registry_pack.specs.Opening.{IsChecked, IsReason}
 use Rattle.registry_pack.proofs.OpeningLemmas.{Belongs-either}
 use Rattle.registry_pack.proofs.pack_opening.check_heads.Goals as goal

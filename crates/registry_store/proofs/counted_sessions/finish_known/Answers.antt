@@ -20,6 +20,7 @@ returns-in-Ok-Some g c =
     let new = state g.S.Store c.finish_known.new.conn in
     record {
       made = λ clean is. rw c.in-Ok-Some.field-0-is at (c.in-Ok-Some.ensures.made clean is);
+      places = λ clean is. c.in-Ok-Some.ensures.places clean is;
       memory = λ clean is wanting. absurd (cc);
       crash = λ clean is. rw c.in-Ok-Some.field-0-is at (c.in-Ok-Some.ensures.crash clean is);
       survives = c.finish_known.ensures.survives;
@@ -28,7 +29,7 @@ returns-in-Ok-Some g c =
           let early = was_clean old new c.finish_known.ensures.survives clean in
           let made : DoneWhereSo InTables true old new (λ w. session_matches w c.args.repo.now c.args.number c.args.digest.now) (λ w. finish_as_is w c.args.repo.now c.args.number c.args.digest.now) = rw c.in-Ok-Some.field-0-is at (c.in-Ok-Some.ensures.made clean is) in
           let told = rw c.in-Ok-Some.field-0-is at (c.in-Ok-Some.ensures.ended clean is) in
-          follows c.args.known.now c.follow.new.self new w c.args.repo.now (λ (r : Repo). finished r c.args.number c.args.digest.now (bytes_or_none (session_at w c.args.repo.now c.args.number))) (Some c.known_end_change.result) (known early)
+          follows InTables c.args.known.now c.follow.new.self new w c.args.repo.now (λ (r : Repo). finished r c.args.number c.args.digest.now (bytes_or_none (session_at w c.args.repo.now c.args.number))) (Some c.known_end_change.result) (known early)
           (session_has_repo w c.args.repo.now c.args.number (was_open w c.args.repo.now c.args.number c.args.digest.now made.0))
           (c.known_end_change.ensures w c.args.repo.now c.args.digest.now c.args.number told.0 told.1) c.follow.ensures made.1.1;
     }
@@ -39,6 +40,7 @@ returns-in-Ok-None g c =
     let new = state g.S.Store c.finish_known.new.conn in
     record {
       made = λ clean is. rw c.in-Ok-None.field-0-is at (c.in-Ok-None.ensures.made clean is);
+      places = λ clean is. c.in-Ok-None.ensures.places clean is;
       memory = λ clean is wanting. absurd (cc);
       crash = λ clean is. rw c.in-Ok-None.field-0-is at (c.in-Ok-None.ensures.crash clean is);
       survives = c.finish_known.ensures.survives;
@@ -50,10 +52,11 @@ returns-in-Ok-None g c =
 pub returns-in-Err : goal.returns-in-Err
 returns-in-Err g c = record {
   made = λ clean is. tt;
+  places = λ clean is. tt;
   memory = λ clean is wanting. c.in-Err.ensures.memory clean is (let e = wanting in cc);
   crash = λ clean is. c.in-Err.ensures.crash clean is;
   survives = c.finish_known.ensures.survives;
   known = λ known clean is sound.
-      unfollowed {A = Bool} c.args.known.now (state g.S.Store c.args.conn.now) (state g.S.Store c.finish_known.new.conn) c.in-Err.fault
+      unfollowed {A = Bool} InTables c.args.known.now (state g.S.Store c.args.conn.now) (state g.S.Store c.finish_known.new.conn) c.in-Err.fault
       (known (was_clean (state g.S.Store c.args.conn.now) (state g.S.Store c.finish_known.new.conn) c.finish_known.ensures.survives clean)) sound (λ wanting. c.in-Err.ensures.memory clean is (let e = wanting in cc));
 }

@@ -2,6 +2,9 @@ use Rattle.std.proofs.Common.{◌∙◌, sym, ap, subst, refl}
 use Rattle.std.specs.Prelude.{IsTrue, ⊤}
 use Rattle.sqlite.specs.Held.{Held, state}
 use Rattle.sqlite.specs.Effect.{Database}
+use Rattle.sqlite.proofs.Callers.{survives_begin}
+use Rattle.store_statements.specs.Clauses.{LastsUncommitted}
+use Rattle.store_statements.proofs.Transactions.{survives_all}
 use Rattle.store_pack.specs.Pack.{PackSays, PutsPack}
 use Rattle.store_pack.proofs.CommitLemmas.{becomes, goes_back, outcomes}
 use Rattle.store_pack.proofs.commit.commit_age.Goals as goal
@@ -31,4 +34,6 @@ returns g c =
           now (ap (λ (h : Held _). (state g.S.Store h).committed) begun) (subst (λ (h : Held _). IsTrue (state g.S.Store h).in_transaction) (sym begun) refl)
           (λ db may. subst (λ (h : Held _). (state g.S.Store h).may_leave db) begun may) (λ db opened may. g.met.S.Store.settled c.args.conn.now.store db opened may)
           (λ late inside. c.set_age-done.ensures.set late inside mark was (subst (λ (d : Database). PackSays d mark was) (sym now) says)) c.set_age-done.ensures.kept c.set_age-done.ensures.survives ended clean is;
+      survives = survives_all old mid (state g.S.Store c.conn-1.given.0) _ _
+          (survives_begin g.S.Store c.args.conn.now mid _ (subst (λ (h : Held _). LastsUncommitted g.S.Store h c.set_age-done.new.tx.conn.now) begun c.set_age-done.ensures.survives)) ended.survives;
     }

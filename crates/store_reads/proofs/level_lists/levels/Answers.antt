@@ -13,7 +13,7 @@ use Rattle.store_statements.proofs.Levels.{levels_found}
 use Rattle.store_statements.proofs.ReadRows.{value_read}
 use Rattle.store_statements.proofs.Transactions.{registry}
 use Rattle.store_reads.specs.LevelLists.{token_level_shown}
-use Rattle.store_reads.proofs.CheckedReads.{tells, stays, lasts, same_read, left_read}
+use Rattle.store_bytes.proofs.CheckedReads.{tells, stays, lasts, same_read, left_read}
 use Rattle.store_reads.proofs.level_lists.levels.Goals as goal
 
 pub returns : goal.returns

@@ -2,7 +2,7 @@ use Rattle.std.proofs.Common.{◌∙◌, OnOk, subst, sym}
 use Rattle.sqlite.specs.State.{HasCleanDisk}
 use Rattle.sqlite.specs.Held.{state}
 use Rattle.store_schema.proofs.Selects.{commit_then, survives_both}
-use Rattle.store_places.specs.Source.{text_in}
+use Rattle.store_places.specs.Source.{runs_in, text_in}
 use Rattle.store_statements.specs.Changes.{blob_columns}
 use Rattle.store_statements.specs.Steps.{BlobComes}
 use Rattle.store_statements.specs.Held.{held}
@@ -19,7 +19,7 @@ returns-in-Ok g c =
       stored = λ l suits clean is fresh.
           let early : HasCleanDisk mid = was_clean c.add_blob_link.ensures.survives clean in
           let here = c.in-Ok.ensures.content l suits early is in
-          blob_stored_if l old mid new c.in-Ok.content.id c.args.repo.now c.args.digest.now (text_in l c.args.source) c.add_blob_link.result here.1
+          blob_stored_if l old mid new c.in-Ok.content.id c.args.repo.now c.args.digest.now (text_in l c.args.source) (runs_in c.args.source) c.add_blob_link.result here.1
           (subst (λ size. OnOk c.add_blob_link.result (BlobComes l mid new (blob_columns c.args.repo.now c.args.digest.now size c.in-Ok.content.id))) (sym (c.len.ensures.text l suits)) (c.add_blob_link.ensures.added l clean here.0 (blob_fresh (held l old) (held l mid) c.in-Ok.content.id c.args.repo.now c.args.digest.now (text_in l c.args.source) here.1 fresh)));
       kept = λ l suits clean is.
           let early : HasCleanDisk mid = was_clean c.add_blob_link.ensures.survives clean in

@@ -5,6 +5,7 @@ use Rattle.sqlite.specs.Held.{state}
 use Rattle.registry_model.specs.World.{World, has_repo}
 use Rattle.registry_model.specs.Lookups.{mount}
 use Rattle.store_statements.specs.declared.blobs.BlobLink.{BlobLink}
+use Rattle.store_statements.specs.PlaceChanges.{KeepsPlaces}
 use Rattle.store_statements.proofs.BlobLinks.{still_none}
 use Rattle.store_statements.proofs.Checks.{never_done}
 use Rattle.store_statements.proofs.CleanBefore.{was_clean}
@@ -15,7 +16,7 @@ use Rattle.store_writes.proofs.MountLemmas.{no_storage, mounts_nothing, makes_fr
 use Rattle.store_statements.proofs.Crashes.{back_from, crash_then, crash_failed, crash_same}
 use Rattle.store_statements.proofs.Alone.{less, less_err}
 use Rattle.registry_model.specs.Lookups as Lookups
-use Rattle.store_writes.proofs.ContentsStay.{same_from, same_read}
+use Rattle.store_writes.proofs.ContentsStay.{from_read, places_read, same_from, same_read}
 use Rattle.store_writes.proofs.blob_mounts.mount.Goals as goal
 
 pub returns-in-Ok-Some : goal.returns-in-Ok-Some
@@ -29,6 +30,7 @@ returns-in-Ok-Some g c = record {
       crash_same g.S.Store c.args.conn.now c.find_blob_link.new.conn (λ w. Lookups.mount w c.args.from.now c.args.to.now c.args.digest.now) is (c.find_blob_link.ensures.kept l clean is)
       (same_mount l (state g.S.Store c.args.conn.now) c.args.from.now c.args.to.now c.args.digest.now c.in-Ok-Some.field-0-0 (rw (c.as_str-target.ensures.text, c.as_str-text.ensures.text) at (sym c.in-Ok-Some.field-0-is ∙ c.in-Ok-Some.ensures.found l clean is)));
   stays = λ l clean is. same_read (state g.S.Store c.args.conn.now) (state g.S.Store c.find_blob_link.new.conn) (c.in-Ok-Some.ensures.settled l clean is refl);
+  places = λ l clean is. places_read (state g.S.Store c.args.conn.now) (state g.S.Store c.find_blob_link.new.conn) (c.in-Ok-Some.ensures.settled l clean is refl);
   survives = c.find_blob_link.ensures.survives;
 }
 
@@ -65,6 +67,11 @@ returns-in-Ok-None g c =
           let stays = c.in-Ok-None.ensures.settled l late is refl in
           less c.mount_link.result (λ it. same_from old mid stays new it)
           (c.mount_link.ensures.stays l (λ clean. still_none old mid c.as_str-target.result.now c.as_str-text.result.now stays (sym c.in-Ok-None.field-0-is ∙ c.in-Ok-None.ensures.found l late is)) clean stays.0);
+      places = λ l clean is.
+          let late : HasCleanDisk mid = was_clean c.mount_link.ensures.survives clean in
+          let stays = c.in-Ok-None.ensures.settled l late is refl in
+          less c.mount_link.result (from_read old mid stays KeepsPlaces new)
+          (c.mount_link.ensures.places l (λ clean. still_none old mid c.as_str-target.result.now c.as_str-text.result.now stays (sym c.in-Ok-None.field-0-is ∙ c.in-Ok-None.ensures.found l late is)) clean stays.0);
       survives = survives_all old mid new _ _ c.find_blob_link.ensures.survives c.mount_link.ensures.survives;
     }
 
@@ -75,5 +82,6 @@ returns-in-Err g c = record {
   back = λ l clean is. (c.find_blob_link.ensures.kept l clean is).back;
   crash = λ l there clean is. crash_failed g.S.Store c.args.conn.now c.find_blob_link.new.conn (λ w. Lookups.mount w c.args.from.now c.args.to.now c.args.digest.now) is (c.find_blob_link.ensures.kept l clean is);
   stays = λ l clean is. tt;
+  places = λ l clean is. tt;
   survives = c.find_blob_link.ensures.survives;
 }

@@ -5,6 +5,8 @@ use Rattle.sqlite.specs.Held.{state}
 use Rattle.store_statements.specs.Keys.{has_key}
 use Rattle.store_statements.specs.Tables.{Tables}
 use Rattle.store_statements.specs.declared.blobs.BlobLink.{BlobLink}
+use Rattle.store_statements.specs.PlaceChanges.{KeepsPlaces}
+use Rattle.store_statements.proofs.PlacesKept.{places_as}
 use Rattle.store_statements.proofs.Alone.{less, less_err}
 use Rattle.store_statements.proofs.Checks.{never_storage}
 use Rattle.store_statements.proofs.CleanBefore.{was_clean}
@@ -15,7 +17,7 @@ use Rattle.store_writes.proofs.MountLemmas.{same_tables, no_storage, mounts}
 use Rattle.store_statements.proofs.Crashes.{back_from, crash_failed, crash_made}
 use Rattle.registry_model.specs.Lookups as Lookups
 use Rattle.store_statements.specs.StepsFrom.{LinkIsPut}
-use Rattle.store_writes.proofs.ContentsStay.{same_from}
+use Rattle.store_writes.proofs.ContentsStay.{from_read, same_from}
 use Rattle.store_writes.proofs.blob_mounts.mount_link.Goals as goal
 
 pub make-requires : goal.make-requires
@@ -28,6 +30,7 @@ returns-in-Err g c = record {
   back = λ l fresh clean is. (c.find_blob_link.ensures.kept l clean is).back;
   crash = λ l there fresh clean is. crash_failed g.S.Store c.args.conn.now c.find_blob_link.new.conn (λ w. Lookups.mount w c.args.from.now c.args.to.now c.args.digest.now) is (c.find_blob_link.ensures.kept l clean is);
   stays = λ l fresh clean is. tt;
+  places = λ l fresh clean is. tt;
   survives = c.find_blob_link.ensures.survives;
 }
 
@@ -38,6 +41,7 @@ returns-in-Ok g c = record {
   back = λ l fresh clean is. (c.find_blob_link.ensures.kept l clean is).back;
   crash = λ l there fresh clean is. crash_failed g.S.Store c.args.conn.now c.find_blob_link.new.conn (λ w. Lookups.mount w c.args.from.now c.args.to.now c.args.digest.now) is (c.find_blob_link.ensures.kept l clean is);
   stays = λ l fresh clean is. tt;
+  places = λ l fresh clean is. tt;
   survives = c.find_blob_link.ensures.survives;
 }
 
@@ -48,6 +52,7 @@ returns-in-Ok-2 g c = record {
   back = λ l fresh clean is. (c.find_blob_link.ensures.kept l clean is).back;
   crash = λ l there fresh clean is. crash_failed g.S.Store c.args.conn.now c.find_blob_link.new.conn (λ w. Lookups.mount w c.args.from.now c.args.to.now c.args.digest.now) is (c.find_blob_link.ensures.kept l clean is);
   stays = λ l fresh clean is. tt;
+  places = λ l fresh clean is. tt;
   survives = c.find_blob_link.ensures.survives;
 }
 
@@ -86,6 +91,12 @@ returns-in-Ok-Some g c =
           let early : HasCleanDisk old = was_clean c.find_blob_link.ensures.survives late in
           let stays = c.in-Ok-Some.ensures.settled l late is refl in
           less c.make.result (λ it. same_from old mid stays new (ap (λ (t : Tables). t.contents) it.1.others))
+          (c.make.ensures.made l tt (λ clean. ap (λ (t : Tables). find (has_key c.args.to.now c.args.digest.now) t.blobs) (same_tables old mid stays) ∙ fresh early) clean stays.0);
+      places = λ l fresh clean is.
+          let late : HasCleanDisk mid = was_clean c.make.ensures.survives clean in
+          let early : HasCleanDisk old = was_clean c.find_blob_link.ensures.survives late in
+          let stays = c.in-Ok-Some.ensures.settled l late is refl in
+          less c.make.result (λ it. from_read old mid stays KeepsPlaces new (places_as _ _ _ it.1.others refl refl))
           (c.make.ensures.made l tt (λ clean. ap (λ (t : Tables). find (has_key c.args.to.now c.args.digest.now) t.blobs) (same_tables old mid stays) ∙ fresh early) clean stays.0);
       survives = survives_all old mid new _ _ c.find_blob_link.ensures.survives c.make.ensures.survives;
     }

@@ -17,7 +17,10 @@ use Rattle.store_writes.proofs.BlobWrites.{puts_there, puts_new, comes, is_there
 use Rattle.store_statements.proofs.Crashes.{back_from, crash_done, crash_failed, crash_same, crash_undone}
 use Rattle.registry_model.specs.Lookups as Lookups
 use Rattle.store_statements.specs.Steps.{BlobStored}
-use Rattle.store_writes.proofs.ContentsStay.{grow_from, grow_same, same_read}
+use Rattle.store_contents.specs.Layouts.{Layout}
+use Rattle.store_statements.specs.Held.{IsSettled}
+use Rattle.store_writes.specs.Worlds.{AddsRows}
+use Rattle.store_writes.proofs.ContentsStay.{blob_rows, from_read, grow_from, grow_same, places_read, same_read}
 use Rattle.store_writes.proofs.blob_puts.put_blob.Goals as goal
 
 pub make-requires : goal.make-requires
@@ -36,6 +39,8 @@ returns-in-Ok-Some g c = record {
       crash_same g.S.Store c.args.conn.now c.find_blob_link.new.conn (λ w. Lookups.put_blob w c.args.repo.now c.args.digest.now (source.text_in l c.args.source)) is (c.find_blob_link.ensures.kept l clean is)
       (rw (c.as_str-repo.ensures.text, c.as_str-digest.ensures.text) at (same_blob l (state g.S.Store c.args.conn.now) c.as_str-repo.result.now c.as_str-digest.result.now (source.text_in l c.args.source) c.in-Ok-Some.field-0-0 (sym c.in-Ok-Some.field-0-is ∙ c.in-Ok-Some.ensures.found l clean is)));
   grows = λ l suits clean is. let stays = c.in-Ok-Some.ensures.settled l clean is refl in grow_same (held l (state g.S.Store c.args.conn.now)) (held l (state g.S.Store c.find_blob_link.new.conn)) (same_read (state g.S.Store c.args.conn.now) (state g.S.Store c.find_blob_link.new.conn) stays);
+  places = λ l suits clean is. places_read (state g.S.Store c.args.conn.now) (state g.S.Store c.find_blob_link.new.conn) (c.in-Ok-Some.ensures.settled l clean is refl);
+  contents = λ l suits clean is. same_read (state g.S.Store c.args.conn.now) (state g.S.Store c.find_blob_link.new.conn) (c.in-Ok-Some.ensures.settled l clean is refl);
   survives = c.find_blob_link.ensures.survives;
 }
 
@@ -47,6 +52,8 @@ returns-in-Err g c = record {
   back = λ l suits clean is. (c.find_blob_link.ensures.kept l clean is).back;
   crash = λ l suits there clean is. crash_failed g.S.Store c.args.conn.now c.find_blob_link.new.conn (λ w. Lookups.put_blob w c.args.repo.now c.args.digest.now (source.text_in l c.args.source)) is (c.find_blob_link.ensures.kept l clean is);
   grows = λ l suits clean is. tt;
+  places = λ l suits clean is. tt;
+  contents = λ l suits clean is. tt;
   survives = c.find_blob_link.ensures.survives;
 }
 
@@ -56,7 +63,14 @@ returns-in-Ok g c =
     let mid = state g.S.Store c.find_blob_link.new.conn in
     let new = state g.S.Store c.make.new.conn in
     let free : HasCleanDisk new → HasCleanDisk mid = was_clean c.make.ensures.survives in
+    let rows : (l : Layout) → source.Suits l c.args.source → HasCleanDisk new → IsSettled l old → AddsRows (source.text_in l c.args.source) (source.runs_in c.args.source) (held l old) (held l new) = λ l suits clean is.
+    let stays = c.in-Ok-None.ensures.settled l (free clean) is refl in
+    let found = sym c.in-Ok-None.field-0-is ∙ c.in-Ok-None.ensures.found l (free clean) is in
+    from_read old mid stays (AddsRows (source.text_in l c.args.source) (source.runs_in c.args.source)) new
+    (blob_rows c.as_str-repo.result.now c.as_str-digest.result.now _ _ _ _ (c.in-Ok.ensures.made l suits (λ clean. still_none old mid c.as_str-repo.result.now c.as_str-digest.result.now stays found) clean stays.0).1) in
     record {
+      places = λ l suits clean is. (rows l suits clean is).0;
+      contents = λ l suits clean is. (rows l suits clean is).1;
       made = λ l suits there clean is.
           let late = free clean in
           let stays = c.in-Ok-None.ensures.settled l late is refl in
@@ -75,7 +89,7 @@ returns-in-Ok g c =
           let stays = c.in-Ok-None.ensures.settled l late is refl in
           let found = sym c.in-Ok-None.field-0-is ∙ c.in-Ok-None.ensures.found l late is in
           let none = none_found blob_link (find (has_key c.as_str-repo.result.now c.as_str-digest.result.now) (held l old).blobs) found in
-          crash_done g.S.Store c.args.conn.now c.make.new.conn (λ w. Lookups.put_blob w c.args.repo.now c.args.digest.now (source.text_in l c.args.source)) c.find_blob_link.new.conn (λ t u. BlobStored t u c.as_str-repo.result.now c.as_str-digest.result.now (source.text_in l c.args.source)) is stays
+          crash_done g.S.Store c.args.conn.now c.make.new.conn (λ w. Lookups.put_blob w c.args.repo.now c.args.digest.now (source.text_in l c.args.source)) c.find_blob_link.new.conn (λ t u. BlobStored t u c.as_str-repo.result.now c.as_str-digest.result.now (source.text_in l c.args.source) (source.runs_in c.args.source)) is stays
           (λ s it. puts_new old mid s c.args.repo.now c.args.digest.now (source.text_in l c.args.source) is (there (was_clean c.find_blob_link.ensures.survives late)) stays (rw (c.as_str-repo.ensures.text, c.as_str-digest.ensures.text) at none) (rw (c.as_str-repo.ensures.text, c.as_str-digest.ensures.text) at it))
           (c.in-Ok.ensures.crash l suits (λ clean. still_none old mid c.as_str-repo.result.now c.as_str-digest.result.now stays found) clean stays.0);
       grows = λ l suits clean is.
@@ -107,9 +121,11 @@ returns-in-Err-make g c =
           let stays = c.in-Ok-None.ensures.settled l late is refl in
           let found = sym c.in-Ok-None.field-0-is ∙ c.in-Ok-None.ensures.found l late is in
           let none = none_found blob_link (find (has_key c.as_str-repo.result.now c.as_str-digest.result.now) (held l old).blobs) found in
-          crash_undone g.S.Store c.args.conn.now c.make.new.conn (λ w. Lookups.put_blob w c.args.repo.now c.args.digest.now (source.text_in l c.args.source)) c.find_blob_link.new.conn (λ t u. BlobStored t u c.as_str-repo.result.now c.as_str-digest.result.now (source.text_in l c.args.source)) is stays
+          crash_undone g.S.Store c.args.conn.now c.make.new.conn (λ w. Lookups.put_blob w c.args.repo.now c.args.digest.now (source.text_in l c.args.source)) c.find_blob_link.new.conn (λ t u. BlobStored t u c.as_str-repo.result.now c.as_str-digest.result.now (source.text_in l c.args.source) (source.runs_in c.args.source)) is stays
           (λ s it. puts_new old mid s c.args.repo.now c.args.digest.now (source.text_in l c.args.source) is (there (was_clean c.find_blob_link.ensures.survives late)) stays (rw (c.as_str-repo.ensures.text, c.as_str-digest.ensures.text) at none) (rw (c.as_str-repo.ensures.text, c.as_str-digest.ensures.text) at it))
           (c.in-Err-make.ensures.crash l suits (λ clean. still_none old mid c.as_str-repo.result.now c.as_str-digest.result.now stays found) clean stays.0);
       grows = λ l suits clean is. tt;
+      places = λ l suits clean is. tt;
+      contents = λ l suits clean is. tt;
       survives = survives_all old mid new _ _ c.find_blob_link.ensures.survives c.make.ensures.survives;
     }

@@ -1,6 +1,6 @@
 use Rattle.sqlite.specs.Held.{state}
-use Rattle.store_writes.proofs.SchemaKept.{only_in_tables}
-use Rattle.store_writes.specs.Naming.{Cleared}
+use Rattle.store_writes.proofs.SchemaKept.{only_in_pack, only_in_tables}
+use Rattle.store_writes.specs.Naming.{Cleared, FreesPlaces}
 use Rattle.store_statements.specs.StepsFrom.{StepsFrom}
 use Rattle.store_statements.specs.Held.{IsReady}
 use Rattle.sqlite.specs.State.{HasCleanDisk, KeepsCommit}
@@ -87,7 +87,7 @@ returns-in-TakeLevels g c = record {
 
 pub returns-in-AddManifest : goal.returns-in-AddManifest
 returns-in-AddManifest g c = record {
-  made = rw c.in-AddManifest.is (λ l suits clean is asks. less c.add_tagged.result (λ it. (it.whole.ready, ((it.whole.agree, it.world), it.beside, it.grow))) (c.add_tagged.ensures.made l suits.0 suits.1 clean (record { ready = is; agree = asks.0 }) asks.1 asks.2));
+  made = rw c.in-AddManifest.is (λ l suits clean is asks. less c.add_tagged.result (λ it. (it.whole.ready, ((it.whole.agree, it.world), it.beside, it.grow, it.rows))) (c.add_tagged.ensures.made l suits.0 suits.1 clean (record { ready = is; agree = asks.0 }) asks.1 asks.2));
   kept = rw c.in-AddManifest.is (λ l suits clean is asks. c.add_tagged.ensures.kept l suits.0 suits.1 clean (record { ready = is; agree = asks.0 }) asks.1 asks.2);
   same_reference = c.add_tagged.ensures.same_reference;
   survives = c.add_tagged.ensures.survives;
@@ -95,7 +95,7 @@ returns-in-AddManifest g c = record {
 
 pub returns-in-SetTag : goal.returns-in-SetTag
 returns-in-SetTag g c = record {
-  made = rw c.in-SetTag.is (λ l suits clean is asks. less c.put_tag_if.result (λ it. (it.whole.ready, ((it.whole.agree, it.world), it.beside, it.grow))) (c.put_tag_if.ensures.made l clean (record { ready = is; agree = asks.0 }) asks.1));
+  made = rw c.in-SetTag.is (λ l suits clean is asks. less c.put_tag_if.result (λ it. (it.whole.ready, ((it.whole.agree, it.world), it.beside, it.grow, it.rows))) (c.put_tag_if.ensures.made l clean (record { ready = is; agree = asks.0 }) asks.1));
   kept = rw c.in-SetTag.is (λ l suits clean is asks. c.put_tag_if.ensures.kept l clean (record { ready = is; agree = asks.0 }));
   same_reference = c.put_tag_if.ensures.same_reference;
   survives = c.put_tag_if.ensures.survives;
@@ -134,6 +134,17 @@ returns-in-Clear g c =
       kept = rw c.in-Clear.is (only_in_tables (λ k. HasCleanDisk (state g.S.Store new) → IsReady k (state g.S.Store old) → ⊤ → KeepsCommit (state g.S.Store old) (state g.S.Store new)) (λ clean is asks. c.clear_contents.ensures.kept clean is));
       same_reference = c.clear_contents.ensures.same_reference;
       survives = c.clear_contents.ensures.survives;
+    }
+
+pub returns-in-ClearPack : goal.returns-in-ClearPack
+returns-in-ClearPack g c =
+    let old = c.args.tx.now.conn.now in
+    let new = c.clear_placed.new.tx.conn.now in
+    record {
+      made = rw c.in-ClearPack.is (only_in_pack (λ k. StepsFrom g.S.Store k old new c.clear_placed.result (λ t. ⊤) (λ t u. Cleared t u × FreesPlaces t u)) (λ file clean is asks. c.clear_placed.ensures.cleared file clean is));
+      kept = rw c.in-ClearPack.is (only_in_pack (λ k. HasCleanDisk (state g.S.Store new) → IsReady k (state g.S.Store old) → ⊤ → KeepsCommit (state g.S.Store old) (state g.S.Store new)) (λ file clean is asks. c.clear_placed.ensures.kept file clean is));
+      same_reference = c.clear_placed.ensures.same_reference;
+      survives = c.clear_placed.ensures.survives;
     }
 
 pub change_session-requires : goal.change_session-requires

@@ -4,7 +4,7 @@ use Rattle.sqlite.specs.Held.{state}
 use Rattle.store_statements.specs.Held.{held}
 use Rattle.store_contents.specs.Layouts.{InTables}
 use Rattle.store_writes.specs.Naming.{ContentsGone}
-use Rattle.store_writes.proofs.ContentsFreed.{so_far_none, so_far_more}
+use Rattle.store_writes.proofs.ContentsFreed.{gone_more, none_gone, so_far_none, so_far_more}
 use Rattle.std.proofs.lemmas.Result.{IfOk-from_err}
 use Rattle.store_statements.proofs.CleanBefore.{was_clean}
 use Rattle.store_schema.proofs.Selects.{commit_then, survives_both}
@@ -12,13 +12,13 @@ use Rattle.sqlite.specs.State.{HasCleanDisk}
 use Rattle.store_writes.proofs.content_clearing.take_contents.Goals as goal
 
 pub loop-id-init : goal.loop-id-init
-loop-id-init g c = record { gone = so_far_none (state g.S.Store c.args.tx.now.conn.now); same_reference = refl }
+loop-id-init g c = record { gone = so_far_none InTables ContentsGone none_gone (state g.S.Store c.args.tx.now.conn.now); same_reference = refl }
 
 pub loop-id-preserved : goal.loop-id-preserved
 loop-id-preserved g c =
     let low : c.loop-id.id-index < length c.args.ids.now = omega arith in
     record {
-      gone = so_far_more (state g.S.Store c.args.tx.now.conn.now) (state g.S.Store c.loop-id.tx.conn.now) (state g.S.Store c.take_content.new.tx.conn.now) c.args.ids.now c.loop-id.id-index (record { id = pos 0 }) low c.loop-id.invariant.gone
+      gone = so_far_more InTables ContentsGone gone_more (state g.S.Store c.args.tx.now.conn.now) (state g.S.Store c.loop-id.tx.conn.now) (state g.S.Store c.take_content.new.tx.conn.now) c.args.ids.now c.loop-id.id-index (record { id = pos 0 }) low c.loop-id.invariant.gone
           c.in_ok-take_content.ensures.taken c.take_content.ensures.kept c.take_content.ensures.survives;
       same_reference = c.take_content.ensures.same_reference ∙ c.loop-id.invariant.same_reference;
     }

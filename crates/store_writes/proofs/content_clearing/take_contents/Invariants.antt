@@ -1,8 +1,10 @@
 use Rattle.std.proofs.Common.{◌≡◌, take}
 use Rattle.sqlite.specs.Held.{state}
+use Rattle.store_contents.specs.Layouts.{InTables}
+use Rattle.store_writes.specs.Naming.{ContentsGone}
 use Rattle.store_writes.proofs.ContentsFreed.{GoneSoFar}
 use Rattle.store_writes.proofs.content_clearing.take_contents.Given as goal
 
 -- the contents so far are gone
 abbrev pub invariant-loop-id : goal.invariant-loop-id
-invariant-loop-id g l = record { gone : GoneSoFar (state g.S.Store l.fn.tx.conn.now) (state g.S.Store l.tx.conn.now) (take l.id-index l.ids); same_reference : l.tx.conn.ghost_name ≡ l.fn.tx.conn.ghost_name }
+invariant-loop-id g l = record { gone : GoneSoFar InTables ContentsGone (state g.S.Store l.fn.tx.conn.now) (state g.S.Store l.tx.conn.now) (take l.id-index l.ids); same_reference : l.tx.conn.ghost_name ≡ l.fn.tx.conn.ghost_name }

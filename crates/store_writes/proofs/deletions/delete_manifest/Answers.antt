@@ -2,8 +2,9 @@ use Rattle.registry_model.specs.Lookups.{delete_manifest}
 use Rattle.store_statements.proofs.ManifestWorlds.{manifest_taken}
 use Rattle.store_statements.specs.Steps.{without_manifest}
 use Rattle.store_writes.proofs.Transacted.{crash_tables, made_tables}
-use Rattle.std.proofs.Common.{ap}
+use Rattle.std.proofs.Common.{ap, refl}
 use Rattle.store_statements.specs.Tables.{Tables}
+use Rattle.store_statements.proofs.PlacesKept.{places_as}
 use Rattle.store_statements.proofs.Alone.{less}
 use Rattle.store_writes.proofs.deletions.delete_manifest.Goals as goal
 
@@ -11,6 +12,7 @@ pub returns : goal.returns
 returns g c = record {
   made = λ l. made_tables g.S.Store c.args.conn.now c.make.new.conn c.make.result (λ w. delete_manifest w c.args.repo.now c.args.digest.now) (without_manifest c.args.repo.now c.args.digest.now) (rw c.as_str.ensures.text at rw c.as_str-2.ensures.text at (c.make.ensures.made l tt (λ clean. tt))) (λ t is. manifest_taken t c.args.repo.now c.args.digest.now is);
   stays = λ l clean is. less c.make.result (λ it. ap (λ (t : Tables). t.contents) it.1) (c.make.ensures.made l tt (λ early. tt) clean is);
+  places = λ l clean is. less c.make.result (λ it. places_as _ _ _ it.1 refl refl) (c.make.ensures.made l tt (λ early. tt) clean is);
   memory = λ l. c.make.ensures.memory l tt (λ clean. tt);
   back = λ l. c.make.ensures.back l tt (λ clean. tt);
   crash = λ l. crash_tables g.S.Store c.args.conn.now c.make.new.conn c.make.result (λ w. delete_manifest w c.args.repo.now c.args.digest.now) (without_manifest c.args.repo.now c.args.digest.now) (rw c.as_str.ensures.text at rw c.as_str-2.ensures.text at (c.make.ensures.crash l tt (λ clean. tt))) (λ t is. manifest_taken t c.args.repo.now c.args.digest.now is);

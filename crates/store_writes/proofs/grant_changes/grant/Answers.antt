@@ -3,6 +3,7 @@ use Rattle.sqlite.specs.State.{HasCleanDisk}
 use Rattle.sqlite.specs.Held.{state}
 use Rattle.store_statements.proofs.RepoWorlds.{has_repo_found}
 use Rattle.store_statements.specs.Held.{held}
+use Rattle.store_statements.proofs.PlacesKept.{places_as}
 use Rattle.store_statements.proofs.Alone.{less}
 use Rattle.store_statements.proofs.CleanBefore.{was_clean}
 use Rattle.store_statements.proofs.Transactions.{makes, registry}
@@ -31,6 +32,7 @@ returns g c = record {
       (λ s it. makes s (held l s) _ it.0 (level_put (held l old) (held l s) c.args.token.now c.args.name.now c.args.level (registry old is) (sym (has_repo_found (held l old) c.args.name.now) ∙ there early) (rw (c.as_str.ensures.text, c.as_str-2.ensures.text) at it.1))) c.make.result c.make.result (λ X x. x)
       (c.make.ensures.crash l tt (λ clean. tt) clean is);
   stays = λ l clean is. less c.make.result (λ it. ap (λ (t : Tables). t.contents) it.1.others) (c.make.ensures.made l tt (λ early. tt) clean is);
+  places = λ l clean is. less c.make.result (λ it. places_as _ _ _ it.1.others refl refl) (c.make.ensures.made l tt (λ early. tt) clean is);
   survives = c.make.ensures.survives;
 }
 

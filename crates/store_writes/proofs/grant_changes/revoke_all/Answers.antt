@@ -4,8 +4,9 @@ use Rattle.store_statements.proofs.GrantWorlds.{token_taken}
 use Rattle.store_statements.specs.Steps.{grants_without}
 use Rattle.store_writes.proofs.Transacted.{crash_tables, made_tables}
 use Rattle.store_statements.specs.Tables.{Tables}
+use Rattle.store_statements.proofs.PlacesKept.{places_as}
 use Rattle.store_statements.proofs.Alone.{less}
-use Rattle.std.proofs.Common.{ap}
+use Rattle.std.proofs.Common.{ap, refl}
 use Rattle.store_writes.proofs.grant_changes.revoke_all.Goals as goal
 
 pub returns : goal.returns
@@ -15,6 +16,7 @@ returns g c = record {
   back = λ l. c.make.ensures.back l tt (λ clean. tt);
   crash = λ l. crash_tables g.S.Store c.args.conn.now c.make.new.conn c.make.result (λ w. revoke_all w c.args.token.now) (grants_without (of_first c.args.token.now)) (rw c.as_str.ensures.text at (c.make.ensures.crash l tt (λ clean. tt))) (λ t is. token_taken t c.args.token.now is);
   stays = λ l clean is. less c.make.result (λ it. ap (λ (t : Tables). t.contents) it.1) (c.make.ensures.made l tt (λ early. tt) clean is);
+  places = λ l clean is. less c.make.result (λ it. places_as _ _ _ it.1 refl refl) (c.make.ensures.made l tt (λ early. tt) clean is);
   survives = c.make.ensures.survives;
 }
 

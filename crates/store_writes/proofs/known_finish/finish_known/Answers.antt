@@ -24,6 +24,7 @@ returns-then-number-gt-LARGEST g c = record {
   back = λ clean is. tt;
   crash = λ clean is. ends_kept InTables g.S.Store c.args.conn.now c.args.conn.now c.args.repo.now c.args.number c.args.digest.now is (kept_stayed g.S.Store g.met.S.Store.settled c.args.conn.now c.args.conn.now is (is, refl));
   stays = λ clean is. refl;
+  places = λ clean is. record { places = refl; packs = refl };
   survives = survives_here (state g.S.Store c.args.conn.now);
 }
 
@@ -56,6 +57,7 @@ returns-in-Ok g c = record {
       let late : HasCleanDisk (state g.S.Store c.find_known.new.conn) = was_clean c.finish_whole.ensures.survives clean in
       let stays = c.in-Ok-Some.ensures.settled late is refl in
       same_from (state g.S.Store c.args.conn.now) (state g.S.Store c.find_known.new.conn) stays (state g.S.Store c.finish_whole.new.conn) (c.in-Ok.ensures.stays InTables clean stays.0);
+  places = λ clean is. record { places = refl; packs = refl };
   survives = survives_all (state g.S.Store c.args.conn.now) (state g.S.Store c.find_known.new.conn) (state g.S.Store c.finish_whole.new.conn) _ _ c.find_known.ensures.survives c.finish_whole.ensures.survives;
 }
 
@@ -81,6 +83,7 @@ returns-in-Err-finish_whole g c = record {
       let stays = c.in-Ok-Some.ensures.settled late is refl in
       rw (c.as_str-repo.ensures.text, c.as_str-digest.ensures.text) at (ends_undone InTables g.S.Store c.args.conn.now c.finish_whole.new.conn c.as_str-repo.result.now c.args.number c.as_str-digest.result.now c.find_known.new.conn c.in-Ok-Some.link is stays (sym c.in-Ok-Some.field-0-is ∙ c.in-Ok-Some.ensures.found late is) (c.in-Err-finish_whole.ensures.crash InTables (λ clean. still_known (state g.S.Store c.args.conn.now) (state g.S.Store c.find_known.new.conn) (c.in-Ok-Some.ensures.settled clean is refl) c.as_str-repo.result.now c.args.number c.as_str-digest.result.now c.in-Ok-Some.link (sym c.in-Ok-Some.field-0-is ∙ c.in-Ok-Some.ensures.found clean is)) clean stays.0));
   stays = λ clean is. tt;
+  places = λ clean is. tt;
   survives = survives_all (state g.S.Store c.args.conn.now) (state g.S.Store c.find_known.new.conn) (state g.S.Store c.finish_whole.new.conn) _ _ c.find_known.ensures.survives c.finish_whole.ensures.survives;
 }
 
@@ -94,6 +97,7 @@ returns-in-Ok-None g c = record {
   back = λ clean is. tt;
   crash = λ clean is. ends_kept InTables g.S.Store c.args.conn.now c.find_known.new.conn c.args.repo.now c.args.number c.args.digest.now is (c.find_known.ensures.kept clean is);
   stays = λ clean is. same_read (state g.S.Store c.args.conn.now) (state g.S.Store c.find_known.new.conn) (c.in-Ok-None.ensures.settled clean is refl);
+  places = λ clean is. record { places = refl; packs = refl };
   survives = c.find_known.ensures.survives;
 }
 
@@ -106,5 +110,6 @@ returns-in-Err g c = record {
   back = λ clean is. (c.find_known.ensures.kept clean is).back;
   crash = λ clean is. ends_failed InTables g.S.Store c.args.conn.now c.find_known.new.conn c.args.repo.now c.args.number c.args.digest.now is (c.find_known.ensures.kept clean is);
   stays = λ clean is. tt;
+  places = λ clean is. tt;
   survives = c.find_known.ensures.survives;
 }

@@ -28,7 +28,7 @@ returns g c = record {
       let early : HasCleanDisk mid = was_clean c.add_manifest_link.ensures.survives clean in
       let found = c.in_ok-content.ensures.content l suits early is.ready in
       then_ok c.add_manifest_link.result
-      (manifest_came old mid (state g.S.Store c.add_manifest_link.new.tx.conn.now) c.in_ok-content.content.id c.args.repo.now c.args.digest.now (source.text_in l c.args.source) is there fresh found.1
+      (manifest_came old mid (state g.S.Store c.add_manifest_link.new.tx.conn.now) c.in_ok-content.content.id c.args.repo.now c.args.digest.now (source.text_in l c.args.source) (source.runs_in c.args.source) is there fresh found.1
       (shown c.args.manifest.now) reads (text_in c.subject_of.result) c.subject_of.ensures)
       (subst (λ size. OnOk c.add_manifest_link.result (ManifestComes l mid (state g.S.Store c.add_manifest_link.new.tx.conn.now) (manifest_columns c.args.repo.now c.args.digest.now size (shown c.args.manifest.now).kind (text_in c.subject_of.result) c.in_ok-content.content.id))) (sym (c.len-size.ensures.text l suits))
       (c.add_manifest_link.ensures.added l clean found.0 (fresh_manifest l old mid c.in_ok-content.content.id c.args.repo.now c.args.digest.now (source.text_in l c.args.source) found.1 fresh)));

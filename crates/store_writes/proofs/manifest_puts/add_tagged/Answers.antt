@@ -28,7 +28,7 @@ returns g c = record {
       let mid : HasCleanDisk (state g.S.Store c.add_manifest.new.tx.conn.now) = was_clean c.put_tag_if.ensures.survives clean in
       let first = c.in_ok-add_manifest.ensures.made l suits reads mid is there fresh in
       let still : is_repo (held l (state g.S.Store c.add_manifest.new.tx.conn.now)).repos c.args.repo.now ≡ true = ap (λ rows. is_repo rows c.args.repo.now) first.repos ∙ there in
-      then_ok c.put_tag_if.result (tagged_put (state g.S.Store c.args.tx.now.conn.now) (state g.S.Store c.add_manifest.new.tx.conn.now) (state g.S.Store c.put_tag_if.new.tx.conn.now) c.args.repo.now c.args.digest.now (source.text_in l c.args.source) (text_in c.args.tag) first)
+      then_ok c.put_tag_if.result (tagged_put (state g.S.Store c.args.tx.now.conn.now) (state g.S.Store c.add_manifest.new.tx.conn.now) (state g.S.Store c.put_tag_if.new.tx.conn.now) c.args.repo.now c.args.digest.now (source.text_in l c.args.source) (source.runs_in c.args.source) (text_in c.args.tag) first)
       (c.put_tag_if.ensures.made l clean first.whole still);
   kept = λ l suits reads clean is there fresh.
       let mid : HasCleanDisk (state g.S.Store c.add_manifest.new.tx.conn.now) = was_clean c.put_tag_if.ensures.survives clean in

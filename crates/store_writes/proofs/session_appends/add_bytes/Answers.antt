@@ -30,8 +30,8 @@ returns-in-Ok-keep_with g c =
       appended = λ l suits clean is fresh.
           let set = subst (λ n. Becomes l mid (uploads_changed (of_session c.args.repo.now c.args.number) (with_size (c.args.size + n)) (held l old))) (sym (c.len.ensures.text l suits)) (c.in-Ok.ensures.set l (clean-1 (clean-2 clean)) is) in
           let kept = c.in-Ok-keep_with.ensures.content l suits (clean-2 clean) set.0 in
-          after_step l (λ s n. PieceStored s n c.args.repo.now c.args.number c.args.size (source.text_in l c.args.source)) _ mid new c.add_piece.result set.1
-          (piece_stored_if l mid late new c.in-Ok-keep_with.content.id c.args.repo.now c.args.number c.args.size (source.text_in l c.args.source) c.add_piece.result kept.1
+          after_step l (λ s n. PieceStored s n c.args.repo.now c.args.number c.args.size (source.text_in l c.args.source) (source.runs_in c.args.source)) _ mid new c.add_piece.result set.1
+          (piece_stored_if l mid late new c.in-Ok-keep_with.content.id c.args.repo.now c.args.number c.args.size (source.text_in l c.args.source) (source.runs_in c.args.source) c.add_piece.result kept.1
           (subst (λ n. OnOk c.add_piece.result (PieceComes l late new (piece_columns c.args.repo.now c.args.number c.args.size n c.in-Ok-keep_with.content.id))) (sym (c.len-in-Ok-keep_with.ensures.text l suits)) (c.add_piece.ensures.added l clean kept.0 (piece_fresh (held l mid) (held l late) c.in-Ok-keep_with.content.id c.args.repo.now c.args.number c.args.size (source.text_in l c.args.source) kept.1
           (ap (λ (t : Tables). find (has_start c.args.repo.now c.args.number c.args.size) t.pieces) set.1 ∙ fresh)))));
       kept = λ l suits clean is.

@@ -1,8 +1,10 @@
-use Rattle.std.proofs.Common.{◌≡◌, ◌∙◌, ◌<◌, ℕ, length, ap, subst, Some, Result, IfOk, refl, ◌+◌}
+use Rattle.std.proofs.Common.{◌≡◌, ◌∙◌, ◌<◌, ℕ, length, ap, subst, Some, Result, IfOk, refl, ◌+◌, sym}
 use Rattle.std.specs.Prelude.{find, option_map, Option, ◌^◌}
 use Rattle.sqlite.specs.State.{HasCleanDisk}
 use Rattle.sqlite.specs.Held.{state}
 use Rattle.store_places.specs.Source as source
+use Rattle.store_places.specs.Source.{size_in}
+use Rattle.store_writes.specs.Worlds.{AddsRows}
 use Rattle.store_contents.specs.Layouts.{Layout}
 use Rattle.store_schema.specs.Rows.{natural_at}
 use Rattle.store_statements.specs.Keys.{of_session}
@@ -21,7 +23,8 @@ use Rattle.store_statements.proofs.Checks.{survives_here}
 use Rattle.store_writes.proofs.Fitting.{not_above, some_more}
 use Rattle.store_statements.proofs.Crashes.{back_from, kept_stayed, crash_failed, crash_made, crash_same}
 use Rattle.store_statements.specs.Steps.{Appended}
-use Rattle.store_writes.proofs.ContentsStay.{grow_from}
+use Rattle.store_writes.proofs.ContentsStay.{from_read, grow_from, piece_rows}
+use Rattle.store_writes.proofs.SomeBytes.{no_places, puts_none, puts_some}
 use Rattle.store_writes.proofs.session_appends.append.Goals as goal
 
 pub as_str-repo-requires : goal.as_str-repo-requires
@@ -42,6 +45,8 @@ returns-then-len-eq0 g c = record {
       crash_same g.S.Store c.args.conn.now c.args.conn.now (λ w. Lookups.append w c.args.repo.now c.args.number (source.text_in l c.args.source)) is (kept_stayed g.S.Store g.met.S.Store.settled c.args.conn.now c.args.conn.now is (is, refl))
       (appends_nothing (state g.S.Store c.args.conn.now) c.args.repo.now c.args.number (source.text_in l c.args.source) is (is_open clean) (c.len.ensures.text l suits ∙ c.if-len-eq0.true)).1;
   grows = λ l suits clean is id bytes e. e;
+  places = λ l suits clean is. no_places c.args.source c.requires.fits (sym c.len.ensures.size ∙ c.if-len-eq0.true) (held l (state g.S.Store c.args.conn.now));
+  contents = λ l suits clean is. puts_none (source.text_in l c.args.source) (size_in c.args.source) (held l (state g.S.Store c.args.conn.now)) (sym c.len.ensures.size ∙ c.if-len-eq0.true);
   survives = survives_here (state g.S.Store c.args.conn.now);
 }
 
@@ -53,6 +58,8 @@ returns-then-number-gt-LARGEST g c = record {
   crash = λ l suits is_open clean is.
       crash_failed g.S.Store c.args.conn.now c.args.conn.now (λ w. Lookups.append w c.args.repo.now c.args.number (source.text_in l c.args.source)) is (kept_stayed g.S.Store g.met.S.Store.settled c.args.conn.now c.args.conn.now is (is, refl));
   grows = λ l suits clean is. tt;
+  places = λ l suits clean is. tt;
+  contents = λ l suits clean is. tt;
   survives = survives_here (state g.S.Store c.args.conn.now);
 }
 
@@ -64,6 +71,8 @@ returns-in-Err g c = record {
   back = λ l suits clean is. (c.find_upload.ensures.kept l clean is).back;
   crash = λ l suits is_open clean is. crash_failed g.S.Store c.args.conn.now c.find_upload.new.conn (λ w. Lookups.append w c.args.repo.now c.args.number (source.text_in l c.args.source)) is (c.find_upload.ensures.kept l clean is);
   grows = λ l suits clean is. tt;
+  places = λ l suits clean is. tt;
+  contents = λ l suits clean is. tt;
   survives = c.find_upload.ensures.survives;
 }
 
@@ -93,9 +102,17 @@ returns-in-Ok g c =
       crash = λ l suits is_open clean is.
           let late = early clean in
           let more : 0 < length (source.text_in l c.args.source) = some_more (length (source.text_in l c.args.source)) c.len.result (c.len.ensures.text l suits) c.if-len-eq0.false in
-          crash_made g.S.Store c.args.conn.now c.make.new.conn (λ w. Lookups.append w c.args.repo.now c.args.number (source.text_in l c.args.source)) c.find_upload.new.conn (λ t u. Appended t u c.as_str-repo.result.now c.args.number c.in-Ok.size (source.text_in l c.args.source)) is (stays l late is)
+          crash_made g.S.Store c.args.conn.now c.make.new.conn (λ w. Lookups.append w c.args.repo.now c.args.number (source.text_in l c.args.source)) c.find_upload.new.conn (λ t u. Appended t u c.as_str-repo.result.now c.args.number c.in-Ok.size (source.text_in l c.args.source) (source.runs_in c.args.source)) is (stays l late is)
           (λ s it. subst (λ name. SettlesOn l s (Lookups.append (world_in l old) name c.args.number (source.text_in l c.args.source))) c.as_str-repo.ensures.text (appends old mid s c.as_str-repo.result.now c.args.number c.in-Ok.size (source.text_in l c.args.source) is (stays l late is) (sized l late is) more it)) c.make.result c.make.result (λ X x. x)
           (c.make.ensures.crash l suits (λ clean. piece_free old mid c.as_str-repo.result.now c.args.number c.in-Ok.size is (stays l clean is) (sized l clean is)) clean (stays l late is).0);
+      places = λ l suits clean is.
+          let late = early clean in
+          less c.make.result (λ it. (from_read old mid (stays l late is) (AddsRows (source.text_in l c.args.source) (source.runs_in c.args.source)) end (piece_rows c.as_str-repo.result.now c.args.number c.in-Ok.size _ _ _ _ it.1)).0)
+          (c.make.ensures.made l suits (λ clean. piece_free old mid c.as_str-repo.result.now c.args.number c.in-Ok.size is (stays l clean is) (sized l clean is)) clean (stays l late is).0);
+      contents = λ l suits clean is.
+          let late = early clean in
+          less c.make.result (λ it. puts_some (source.text_in l c.args.source) (size_in c.args.source) _ _ (subst (λ n. n ≡ 0 → ⊥) c.len.ensures.size c.if-len-eq0.false) (from_read old mid (stays l late is) (AddsRows (source.text_in l c.args.source) (source.runs_in c.args.source)) end (piece_rows c.as_str-repo.result.now c.args.number c.in-Ok.size _ _ _ _ it.1)).1)
+          (c.make.ensures.made l suits (λ clean. piece_free old mid c.as_str-repo.result.now c.args.number c.in-Ok.size is (stays l clean is) (sized l clean is)) clean (stays l late is).0);
       grows = λ l suits clean is.
           let late = early clean in
           less c.make.result (λ it. grow_from old mid (stays l late is) end it.1.grow)

@@ -1,6 +1,7 @@
 use Rattle.sqlite.specs.Held.{state}
 use Rattle.store_statements.proofs.Sessions.{sessions_dropped}
 use Rattle.store_statements.specs.Held.{held}
+use Rattle.store_statements.proofs.PlacesKept.{places_as}
 use Rattle.store_statements.proofs.Alone.{commits_as, less}
 use Rattle.store_statements.proofs.Transactions.{makes, registry}
 use Rattle.store_statements.proofs.Crashes.{crash_made}
@@ -18,6 +19,7 @@ returns g c = record {
       let new = state g.S.Store c.make.new.conn in
       less c.make.result (λ it. makes new _ _ (commits_as new _ it.0 (rw c.as_str-repo.ensures.text at it.1)) (sessions_dropped (held l old) c.args.repo.now (registry old is))) (c.make.ensures.made l tt (λ early. tt) clean is);
   stays = λ l clean is. less c.make.result (λ it. ap (λ (t : Tables). t.contents) it.1) (c.make.ensures.made l tt (λ early. tt) clean is);
+  places = λ l clean is. less c.make.result (λ it. places_as _ _ _ it.1 refl refl) (c.make.ensures.made l tt (λ early. tt) clean is);
   memory = λ l. c.make.ensures.memory l tt (λ early. tt);
   back = λ l. c.make.ensures.back l tt (λ early. tt);
   crash = λ l clean is.

@@ -6,6 +6,8 @@ use Rattle.store_schema.specs.Rows.{natural_at}
 use Rattle.store_statements.specs.Keys.{of_first}
 use Rattle.store_statements.specs.declared.repos.RepoRow.{RepoRow}
 use Rattle.store_statements.specs.Held.{SettlesOn, held, world_in}
+use Rattle.store_statements.specs.PlaceChanges.{KeepsPlaces}
+use Rattle.store_statements.proofs.PlacesKept.{places_as}
 use Rattle.store_statements.proofs.Transactions.{survives_all}
 use Rattle.store_statements.proofs.WritesAfterReads.{memory_told}
 use Rattle.store_writes.proofs.SessionWrites.{last_found, number_behind, opens}
@@ -17,7 +19,7 @@ use Rattle.registry_model.specs.Lookups as Lookups
 use Rattle.store_statements.proofs.Crashes.{back_from, crash_done, crash_failed, crash_undone}
 use Rattle.store_statements.specs.Steps.{SessionOpened}
 use Rattle.store_statements.specs.Tables.{Tables}
-use Rattle.store_writes.proofs.ContentsStay.{same_from}
+use Rattle.store_writes.proofs.ContentsStay.{from_read, same_from}
 use Rattle.store_writes.proofs.session_changes.open_session.Goals as goal
 
 pub returns-in-Ok-make : goal.returns-in-Ok-make
@@ -49,6 +51,12 @@ returns-in-Ok-make g c =
           let last : Some c.in-Ok-Some.row.last ≡ option_map (λ r. natural_at r 3) (find (of_first c.as_str-repo.result.now) (held l old).repos) =
           last_found (find (of_first c.as_str-repo.result.now) (held l old).repos) c.in-Ok-Some.row (sym c.in-Ok-Some.field-0-is ∙ c.in-Ok-Some.ensures.found l late is) in
           same_from old mid stays new (ap (λ (t : Tables). t.contents) (c.in-Ok-make.ensures.made l tt (λ early. number_behind old mid c.as_str-repo.result.now c.in-Ok-Some.row.last is stays last) clean stays.0).1.others);
+      places = λ l clean is.
+          let late : HasCleanDisk mid = was_clean c.make.ensures.survives clean in
+          let stays = c.in-Ok-Some.ensures.settled l late is refl in
+          let last : Some c.in-Ok-Some.row.last ≡ option_map (λ r. natural_at r 3) (find (of_first c.as_str-repo.result.now) (held l old).repos) =
+          last_found (find (of_first c.as_str-repo.result.now) (held l old).repos) c.in-Ok-Some.row (sym c.in-Ok-Some.field-0-is ∙ c.in-Ok-Some.ensures.found l late is) in
+          from_read old mid stays KeepsPlaces new (places_as _ _ _ (c.in-Ok-make.ensures.made l tt (λ early. number_behind old mid c.as_str-repo.result.now c.in-Ok-Some.row.last is stays last) clean stays.0).1.others refl refl);
       survives = survives_all old mid new _ _ c.find_repo.ensures.survives c.make.ensures.survives;
     }
 
@@ -80,6 +88,7 @@ returns-in-Err-make g c =
           (λ s it. subst (λ name. SettlesOn l s (Lookups.open_session (world_in l old) name)) c.as_str-repo.ensures.text (opens old mid s c.as_str-repo.result.now c.in-Ok-Some.row.last is stays last it).1)
           (c.in-Err-make.ensures.crash l tt (λ early. number_behind old mid c.as_str-repo.result.now c.in-Ok-Some.row.last is stays last) clean stays.0);
       stays = λ l clean is. tt;
+      places = λ l clean is. tt;
       survives = survives_all old mid new _ _ c.find_repo.ensures.survives c.make.ensures.survives;
     }
 
@@ -99,6 +108,7 @@ returns-in-Ok g c = record {
   back = λ l clean is. (c.find_repo.ensures.kept l clean is).back;
   crash = λ l clean is. crash_failed g.S.Store c.args.conn.now c.find_repo.new.conn (λ w. Lookups.open_session w c.args.repo.now) is (c.find_repo.ensures.kept l clean is);
   stays = λ l clean is. tt;
+  places = λ l clean is. tt;
   survives = c.find_repo.ensures.survives;
 }
 
@@ -109,6 +119,7 @@ returns-in-Ok-2 g c = record {
   back = λ l clean is. (c.find_repo.ensures.kept l clean is).back;
   crash = λ l clean is. crash_failed g.S.Store c.args.conn.now c.find_repo.new.conn (λ w. Lookups.open_session w c.args.repo.now) is (c.find_repo.ensures.kept l clean is);
   stays = λ l clean is. tt;
+  places = λ l clean is. tt;
   survives = c.find_repo.ensures.survives;
 }
 
@@ -119,5 +130,6 @@ returns-in-Err g c = record {
   back = λ l clean is. (c.find_repo.ensures.kept l clean is).back;
   crash = λ l clean is. crash_failed g.S.Store c.args.conn.now c.find_repo.new.conn (λ w. Lookups.open_session w c.args.repo.now) is (c.find_repo.ensures.kept l clean is);
   stays = λ l clean is. tt;
+  places = λ l clean is. tt;
   survives = c.find_repo.ensures.survives;
 }

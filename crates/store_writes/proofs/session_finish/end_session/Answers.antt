@@ -18,7 +18,7 @@ returns-in-Ok g c = record {
       let new = state g.S.Store c.store_blob.new.tx.conn.now in
       let early : HasCleanDisk mid = was_clean c.store_blob.ensures.survives clean in
       let first = c.in-Ok.ensures.taken l early is in
-      after_step l (λ s n. BlobStored s n c.args.repo.now c.args.digest.now (source.text_in l c.args.source)) _ mid new c.store_blob.result first.1
+      after_step l (λ s n. BlobStored s n c.args.repo.now c.args.digest.now (source.text_in l c.args.source) (source.runs_in c.args.source)) _ mid new c.store_blob.result first.1
       (c.store_blob.ensures.stored l suits clean first.0 (ap (λ (t : Tables). find (has_key c.args.repo.now c.args.digest.now) t.blobs) first.1 ∙ fresh));
   kept = λ l suits clean is.
       let mid = state g.S.Store c.take_session.new.tx.conn.now in

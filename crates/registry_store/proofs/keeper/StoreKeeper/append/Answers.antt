@@ -4,18 +4,24 @@ use Rattle.registry_store.proofs.KeeperStates.{asked}
 use Rattle.registry_store.proofs.KeeperAnswers.{nothing_once, write_holds, writes_once}
 use Rattle.registry_store.proofs.keeper.StoreKeeper.append.Goals as goal
 
+pub append-answer-requires : goal.append-answer-requires
+append-answer-requires g c = record { hashed = c.requires.hashed }
+
 pub invariant_of-self : goal.invariant_of-self
 invariant_of-self g c =
-    write_holds g.S.Store g.O.Origin.is_ours c.self.inside.conn c.args.self.now c.self.inside.spent c.self.view_is c.self.inside.known c.self.invariant c.if-self.false c.append-answer.new.conn c.append-answer.ensures.survives
+    write_holds g.S.Store g.C.Contents g.O.Origin.is_ours c.self.inside.conn c.self.inside.contents c.args.self.now c.self.inside.spent c.self.view_is c.self.inside.known c.self.invariant c.if-self.false (c.append-answer.new.conn, c.append-answer.new.contents) c.append-answer.ensures.clean
     c.note_fault.result c.append-answer.result c.note_fault.new.spent c.note_fault.ensures.same c.note_fault.ensures.noted c.append-answer.new.known (λ w. append w c.args.repo.now c.args.number c.args.bytes.now)
-    (λ ours. c.append-answer.ensures.made (asked g.S.Store c.self.inside.conn c.args.self.now c.self.inside.spent c.self.view_is (λ w. is_some (session_at w c.args.repo.now c.args.number) ≡ true) g.O.Origin.is_ours c.if-self.false ours c.requires.«open»)) (λ ours. c.append-answer.ensures.memory) (λ ours known. c.append-answer.ensures.known known (asked g.S.Store c.self.inside.conn c.args.self.now c.self.inside.spent c.self.view_is (λ w. is_some (session_at w c.args.repo.now c.args.number) ≡ true) g.O.Origin.is_ours c.if-self.false ours c.requires.«open»))
+    (λ ours. c.append-answer.ensures.made (asked g.S.Store g.C.Contents c.self.inside.conn c.self.inside.contents c.args.self.now c.self.inside.spent c.self.view_is (λ w. is_some (session_at w c.args.repo.now c.args.number) ≡ true) g.O.Origin.is_ours c.if-self.false ours c.requires.open))
+    (λ ours. c.append-answer.ensures.memory (asked g.S.Store g.C.Contents c.self.inside.conn c.self.inside.contents c.args.self.now c.self.inside.spent c.self.view_is (λ w. is_some (session_at w c.args.repo.now c.args.number) ≡ true) g.O.Origin.is_ours c.if-self.false ours c.requires.open))
+    (λ ours. c.append-answer.ensures.known (asked g.S.Store g.C.Contents c.self.inside.conn c.self.inside.contents c.args.self.now c.self.inside.spent c.self.view_is (λ w. is_some (session_at w c.args.repo.now c.args.number) ≡ true) g.O.Origin.is_ours c.if-self.false ours c.requires.open))
 
 pub returns-then-self : goal.returns-then-self
-returns-then-self g c = nothing_once g.S.Store g.O.Origin.is_ours c.self.inside.conn c.args.self.now c.self.inside.spent c.self.view_is c.if-self.true
+returns-then-self g c = nothing_once g.S.Store g.C.Contents g.O.Origin.is_ours c.self.inside.conn c.self.inside.contents c.args.self.now c.self.inside.spent c.self.view_is c.if-self.true
 
 pub returns : goal.returns
 returns g c =
-    writes_once g.S.Store g.O.Origin.is_ours c.self.inside.conn c.args.self.now c.self.inside.spent c.self.view_is c.self.inside.known c.self.invariant c.if-self.false c.append-answer.new.conn c.append-answer.ensures.survives
+    writes_once g.S.Store g.C.Contents g.O.Origin.is_ours c.self.inside.conn c.self.inside.contents c.args.self.now c.self.inside.spent c.self.view_is c.self.inside.known c.self.invariant c.if-self.false (c.append-answer.new.conn, c.append-answer.new.contents) c.append-answer.ensures.clean
     c.note_fault.result c.append-answer.result c.note_fault.new.spent c.note_fault.ensures.same c.note_fault.ensures.noted (λ w. append w c.args.repo.now c.args.number c.args.bytes.now)
-    (λ ours. c.append-answer.ensures.made (asked g.S.Store c.self.inside.conn c.args.self.now c.self.inside.spent c.self.view_is (λ w. is_some (session_at w c.args.repo.now c.args.number) ≡ true) g.O.Origin.is_ours c.if-self.false ours c.requires.«open»)) (λ ours. c.append-answer.ensures.memory)
-    (λ ours. c.append-answer.ensures.crash (asked g.S.Store c.self.inside.conn c.args.self.now c.self.inside.spent c.self.view_is (λ w. is_some (session_at w c.args.repo.now c.args.number) ≡ true) g.O.Origin.is_ours c.if-self.false ours c.requires.«open»))
+    (λ ours. c.append-answer.ensures.made (asked g.S.Store g.C.Contents c.self.inside.conn c.self.inside.contents c.args.self.now c.self.inside.spent c.self.view_is (λ w. is_some (session_at w c.args.repo.now c.args.number) ≡ true) g.O.Origin.is_ours c.if-self.false ours c.requires.open))
+    (λ ours. c.append-answer.ensures.memory (asked g.S.Store g.C.Contents c.self.inside.conn c.self.inside.contents c.args.self.now c.self.inside.spent c.self.view_is (λ w. is_some (session_at w c.args.repo.now c.args.number) ≡ true) g.O.Origin.is_ours c.if-self.false ours c.requires.open))
+    (λ ours. c.append-answer.ensures.crash (asked g.S.Store g.C.Contents c.self.inside.conn c.self.inside.contents c.args.self.now c.self.inside.spent c.self.view_is (λ w. is_some (session_at w c.args.repo.now c.args.number) ≡ true) g.O.Origin.is_ours c.if-self.false ours c.requires.open))

@@ -1,29 +1,32 @@
-use Rattle.std.proofs.Common.{◌≡◌, true}
-use Rattle.std.specs.Prelude.{is_some}
-use Rattle.sqlite.specs.Held.{state}
-use Rattle.registry_model.specs.Lookups.{blob_at, delete_blob}
-use Rattle.store_contents.specs.Layouts.{InTables}
-use Rattle.store_statements.specs.Held.{world_in}
+use Rattle.std.proofs.Common.{◌≡◌, true, is_some}
+use Rattle.std.specs.Prelude.{⊤}
+use Rattle.registry_model.specs.Lookups.{delete_blob, blob_at}
+use Rattle.registry_model.specs.World.{has_repo}
+use Rattle.registry_store.specs.Kept.{world_at}
 use Rattle.registry_store.proofs.KnownWorlds.{blob_has_repo}
 use Rattle.registry_store.proofs.KeeperStates.{asked}
+use Rattle.registry_store.proofs.RowCalls.{rows_clean, rows_crash, rows_know, rows_make, rows_want}
 use Rattle.registry_store.proofs.KeeperAnswers.{nothing_once, write_holds, writes_once}
 use Rattle.registry_store.proofs.keeper.StoreKeeper.delete_blob.Goals as goal
 
+pub write_rows-answer-requires : goal.write_rows-answer-requires
+write_rows-answer-requires g c = record { rows = tt }
+
 pub invariant_of-self : goal.invariant_of-self
 invariant_of-self g c =
-    write_holds g.S.Store g.O.Origin.is_ours c.self.inside.conn c.args.self.now c.self.inside.spent c.self.view_is c.self.inside.known c.self.invariant c.if-self.false c.make_counted-answer.new.conn c.make_counted-answer.ensures.survives
-    c.note_fault.result c.make_counted-answer.result c.note_fault.new.spent c.note_fault.ensures.same c.note_fault.ensures.noted c.make_counted-answer.new.known (λ w. delete_blob w c.args.repo.now c.args.digest.now)
-    (λ ours. c.make_counted-answer.ensures.made (λ clean. tt)) (λ ours. c.make_counted-answer.ensures.memory (λ clean. tt)) (λ ours known. c.make_counted-answer.ensures.known known (λ clean. tt) (λ clean. blob_has_repo (world_in InTables (state g.S.Store c.self.inside.conn)) c.args.repo.now c.args.digest.now (asked g.S.Store c.self.inside.conn c.args.self.now c.self.inside.spent c.self.view_is (λ w. is_some (blob_at w c.args.repo.now c.args.digest.now) ≡ true) g.O.Origin.is_ours c.if-self.false ours c.requires.there clean)))
+    write_holds g.S.Store g.C.Contents g.O.Origin.is_ours c.self.inside.conn c.self.inside.contents c.args.self.now c.self.inside.spent c.self.view_is c.self.inside.known c.self.invariant c.if-self.false (c.write_rows-answer.new.conn, c.self.inside.contents) (rows_clean g.S.Store g.C.Contents c.self.inside.contents c.self.inside.conn c.write_rows-answer.new.conn c.write_rows-answer.ensures.survives)
+    c.note_fault.result c.write_rows-answer.result c.note_fault.new.spent c.note_fault.ensures.same c.note_fault.ensures.noted c.write_rows-answer.new.known (λ w. delete_blob w c.args.repo.now c.args.digest.now)
+    (λ ours. rows_make g.S.Store g.C.Contents c.self.inside.contents c.self.inside.conn c.write_rows-answer.new.conn c.write_rows-answer.result (λ _. ⊤) (λ w. delete_blob w c.args.repo.now c.args.digest.now) (c.write_rows-answer.ensures.made (g.C.Contents.layout c.self.inside.contents)) (c.write_rows-answer.ensures.places (g.C.Contents.layout c.self.inside.contents)) (λ _. tt))
+    (λ ours. rows_want g.S.Store g.C.Contents c.self.inside.contents c.self.inside.conn c.write_rows-answer.new.conn c.write_rows-answer.result (λ _. ⊤) (c.write_rows-answer.ensures.memory (g.C.Contents.layout c.self.inside.contents)) (λ _. tt))
+    (λ ours. rows_know g.S.Store g.C.Contents c.self.inside.contents c.self.inside.conn c.write_rows-answer.new.conn c.write_rows-answer.result c.self.inside.known c.write_rows-answer.new.known (λ w. has_repo w c.args.repo.now ≡ true) (λ k has. c.write_rows-answer.ensures.known (g.C.Contents.layout c.self.inside.contents) k (λ _. tt) has) (λ early. blob_has_repo (world_at g.S.Store g.C.Contents (c.self.inside.conn, c.self.inside.contents)) c.args.repo.now c.args.digest.now ((asked g.S.Store g.C.Contents c.self.inside.conn c.self.inside.contents c.args.self.now c.self.inside.spent c.self.view_is (λ w. is_some (blob_at w c.args.repo.now c.args.digest.now) ≡ true) g.O.Origin.is_ours c.if-self.false ours c.requires.there) early)) (rows_clean g.S.Store g.C.Contents c.self.inside.contents c.self.inside.conn c.write_rows-answer.new.conn c.write_rows-answer.ensures.survives))
 
 pub returns-then-self : goal.returns-then-self
-returns-then-self g c = nothing_once g.S.Store g.O.Origin.is_ours c.self.inside.conn c.args.self.now c.self.inside.spent c.self.view_is c.if-self.true
+returns-then-self g c = nothing_once g.S.Store g.C.Contents g.O.Origin.is_ours c.self.inside.conn c.self.inside.contents c.args.self.now c.self.inside.spent c.self.view_is c.if-self.true
 
 pub returns : goal.returns
 returns g c =
-    writes_once g.S.Store g.O.Origin.is_ours c.self.inside.conn c.args.self.now c.self.inside.spent c.self.view_is c.self.inside.known c.self.invariant c.if-self.false c.make_counted-answer.new.conn c.make_counted-answer.ensures.survives
-    c.note_fault.result c.make_counted-answer.result c.note_fault.new.spent c.note_fault.ensures.same c.note_fault.ensures.noted (λ w. delete_blob w c.args.repo.now c.args.digest.now)
-    (λ ours. c.make_counted-answer.ensures.made (λ clean. tt)) (λ ours. c.make_counted-answer.ensures.memory (λ clean. tt))
-    (λ ours. c.make_counted-answer.ensures.crash (λ clean. tt))
-
-pub make_counted-answer-requires : goal.make_counted-answer-requires
-make_counted-answer-requires g c = record { fits = tt }
+    writes_once g.S.Store g.C.Contents g.O.Origin.is_ours c.self.inside.conn c.self.inside.contents c.args.self.now c.self.inside.spent c.self.view_is c.self.inside.known c.self.invariant c.if-self.false (c.write_rows-answer.new.conn, c.self.inside.contents) (rows_clean g.S.Store g.C.Contents c.self.inside.contents c.self.inside.conn c.write_rows-answer.new.conn c.write_rows-answer.ensures.survives)
+    c.note_fault.result c.write_rows-answer.result c.note_fault.new.spent c.note_fault.ensures.same c.note_fault.ensures.noted (λ w. delete_blob w c.args.repo.now c.args.digest.now)
+    (λ ours. rows_make g.S.Store g.C.Contents c.self.inside.contents c.self.inside.conn c.write_rows-answer.new.conn c.write_rows-answer.result (λ _. ⊤) (λ w. delete_blob w c.args.repo.now c.args.digest.now) (c.write_rows-answer.ensures.made (g.C.Contents.layout c.self.inside.contents)) (c.write_rows-answer.ensures.places (g.C.Contents.layout c.self.inside.contents)) (λ _. tt))
+    (λ ours. rows_want g.S.Store g.C.Contents c.self.inside.contents c.self.inside.conn c.write_rows-answer.new.conn c.write_rows-answer.result (λ _. ⊤) (c.write_rows-answer.ensures.memory (g.C.Contents.layout c.self.inside.contents)) (λ _. tt))
+    (λ ours. rows_crash g.S.Store g.C.Contents c.self.inside.contents c.self.inside.conn c.write_rows-answer.new.conn c.write_rows-answer.result g.C.Contents.lasts g.C.Contents.remembers_spared (λ _. ⊤) (λ w. delete_blob w c.args.repo.now c.args.digest.now) (λ l. c.write_rows-answer.ensures.crash l) (λ _. tt))

@@ -10,16 +10,19 @@ put_blob-answer-requires g c = record { matching = c.requires.matching; fits = c
 
 pub invariant_of-self : goal.invariant_of-self
 invariant_of-self g c =
-    write_holds g.S.Store g.O.Origin.is_ours c.self.inside.conn c.args.self.now c.self.inside.spent c.self.view_is c.self.inside.known c.self.invariant c.if-self.false c.put_blob-answer.new.conn c.put_blob-answer.ensures.survives
+    write_holds g.S.Store g.C.Contents g.O.Origin.is_ours c.self.inside.conn c.self.inside.contents c.args.self.now c.self.inside.spent c.self.view_is c.self.inside.known c.self.invariant c.if-self.false (c.put_blob-answer.new.conn, c.put_blob-answer.new.contents) c.put_blob-answer.ensures.clean
     c.note_fault.result c.put_blob-answer.result c.note_fault.new.spent c.note_fault.ensures.same c.note_fault.ensures.noted c.put_blob-answer.new.known (λ w. put_blob w c.args.repo.now c.args.digest.now c.args.bytes.now)
-    (λ ours. c.put_blob-answer.ensures.made (asked g.S.Store c.self.inside.conn c.args.self.now c.self.inside.spent c.self.view_is (λ w. has_repo w c.args.repo.now ≡ true) g.O.Origin.is_ours c.if-self.false ours c.requires.there)) (λ ours. c.put_blob-answer.ensures.memory) (λ ours known. c.put_blob-answer.ensures.known known (asked g.S.Store c.self.inside.conn c.args.self.now c.self.inside.spent c.self.view_is (λ w. has_repo w c.args.repo.now ≡ true) g.O.Origin.is_ours c.if-self.false ours c.requires.there))
+    (λ ours. c.put_blob-answer.ensures.made (asked g.S.Store g.C.Contents c.self.inside.conn c.self.inside.contents c.args.self.now c.self.inside.spent c.self.view_is (λ w. has_repo w c.args.repo.now ≡ true) g.O.Origin.is_ours c.if-self.false ours c.requires.there))
+    (λ ours. c.put_blob-answer.ensures.memory (asked g.S.Store g.C.Contents c.self.inside.conn c.self.inside.contents c.args.self.now c.self.inside.spent c.self.view_is (λ w. has_repo w c.args.repo.now ≡ true) g.O.Origin.is_ours c.if-self.false ours c.requires.there))
+    (λ ours. c.put_blob-answer.ensures.known (asked g.S.Store g.C.Contents c.self.inside.conn c.self.inside.contents c.args.self.now c.self.inside.spent c.self.view_is (λ w. has_repo w c.args.repo.now ≡ true) g.O.Origin.is_ours c.if-self.false ours c.requires.there))
 
 pub returns-then-self : goal.returns-then-self
-returns-then-self g c = nothing_once g.S.Store g.O.Origin.is_ours c.self.inside.conn c.args.self.now c.self.inside.spent c.self.view_is c.if-self.true
+returns-then-self g c = nothing_once g.S.Store g.C.Contents g.O.Origin.is_ours c.self.inside.conn c.self.inside.contents c.args.self.now c.self.inside.spent c.self.view_is c.if-self.true
 
 pub returns : goal.returns
 returns g c =
-    writes_once g.S.Store g.O.Origin.is_ours c.self.inside.conn c.args.self.now c.self.inside.spent c.self.view_is c.self.inside.known c.self.invariant c.if-self.false c.put_blob-answer.new.conn c.put_blob-answer.ensures.survives
+    writes_once g.S.Store g.C.Contents g.O.Origin.is_ours c.self.inside.conn c.self.inside.contents c.args.self.now c.self.inside.spent c.self.view_is c.self.inside.known c.self.invariant c.if-self.false (c.put_blob-answer.new.conn, c.put_blob-answer.new.contents) c.put_blob-answer.ensures.clean
     c.note_fault.result c.put_blob-answer.result c.note_fault.new.spent c.note_fault.ensures.same c.note_fault.ensures.noted (λ w. put_blob w c.args.repo.now c.args.digest.now c.args.bytes.now)
-    (λ ours. c.put_blob-answer.ensures.made (asked g.S.Store c.self.inside.conn c.args.self.now c.self.inside.spent c.self.view_is (λ w. has_repo w c.args.repo.now ≡ true) g.O.Origin.is_ours c.if-self.false ours c.requires.there)) (λ ours. c.put_blob-answer.ensures.memory)
-    (λ ours. c.put_blob-answer.ensures.crash (asked g.S.Store c.self.inside.conn c.args.self.now c.self.inside.spent c.self.view_is (λ w. has_repo w c.args.repo.now ≡ true) g.O.Origin.is_ours c.if-self.false ours c.requires.there))
+    (λ ours. c.put_blob-answer.ensures.made (asked g.S.Store g.C.Contents c.self.inside.conn c.self.inside.contents c.args.self.now c.self.inside.spent c.self.view_is (λ w. has_repo w c.args.repo.now ≡ true) g.O.Origin.is_ours c.if-self.false ours c.requires.there))
+    (λ ours. c.put_blob-answer.ensures.memory (asked g.S.Store g.C.Contents c.self.inside.conn c.self.inside.contents c.args.self.now c.self.inside.spent c.self.view_is (λ w. has_repo w c.args.repo.now ≡ true) g.O.Origin.is_ours c.if-self.false ours c.requires.there))
+    (λ ours. c.put_blob-answer.ensures.crash (asked g.S.Store g.C.Contents c.self.inside.conn c.self.inside.contents c.args.self.now c.self.inside.spent c.self.view_is (λ w. has_repo w c.args.repo.now ≡ true) g.O.Origin.is_ours c.if-self.false ours c.requires.there))

@@ -1,0 +1,5 @@
+mod PackTexts
+pub mod PackKnown
+mod NewPack
+mod MakingLemmas
+mod AskingLemmas

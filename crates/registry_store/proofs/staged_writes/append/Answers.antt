@@ -1,0 +1,50 @@
+use Rattle.std.proofs.Common.{◌≡◌, true, is_some}
+use Rattle.sqlite.specs.Held.{state}
+use Rattle.store_statements.specs.Held.{held}
+use Rattle.store_bytes.specs.Staging.{runs_staged}
+use Rattle.registry_model.specs.Lookups.{append, session_at}
+use Rattle.store_statements.specs.PlaceChanges.{PutsPlaces}
+use Rattle.store_writes.proofs.KnownEnds.{came_by, came_memory, came_so}
+use Rattle.registry_store.proofs.StagedCalls.{all_storage, put_known, put_left, put_made, put_wanted, puts_all, unstaged_known, unstaged_left, unstaged_stayed}
+use Rattle.registry_store.proofs.staged_writes.append.Goals as goal
+
+pub returns-in_err-staged-clause-memory : goal.returns-in_err-staged-clause-memory
+returns-in_err-staged-clause-memory g c asks clean is wanting = unstaged_stayed g.S.Store g.C.Contents g.C.Contents.remembers_spared c.args.conn.now c.args.contents.now c.stage.new.self (record { bytes = c.stage.ensures.bytes; spares = c.stage.ensures.spares; names = c.stage.ensures.names }) is
+
+pub returns-in_err-staged-clause-crash : goal.returns-in_err-staged-clause-crash
+returns-in_err-staged-clause-crash g c asks clean is =
+    unstaged_left g.S.Store g.C.Contents g.C.Contents.remembers_spared c.args.conn.now c.args.contents.now c.stage.new.self (record { bytes = c.stage.ensures.bytes; spares = c.stage.ensures.spares; names = c.stage.ensures.names }) is g.C.Contents.lasts g.met.S.Store.settled (λ w. append w c.args.repo.now c.args.number c.args.bytes.now) c.from_residual.result c.from_residual.ensures.0
+
+pub returns-in_err-staged-clause-known : goal.returns-in_err-staged-clause-known
+returns-in_err-staged-clause-known g c asks knows clean is off =
+    unstaged_known g.S.Store g.C.Contents g.C.Contents.remembers_spared c.args.conn.now c.args.contents.now c.stage.new.self (record { bytes = c.stage.ensures.bytes; spares = c.stage.ensures.spares; names = c.stage.ensures.names }) is c.args.known.now knows
+
+pub returns-clause-made : goal.returns-clause-made
+returns-clause-made g c asks clean is =
+    put_made g.S.Store g.C.Contents c.args.conn.now c.append-put.new.conn c.args.contents.now c.stage.new.self c.settle.new.contents c.in_ok-staged.staged c.args.bytes.now (record { bytes = c.stage.ensures.bytes; spares = c.stage.ensures.spares; names = c.stage.ensures.names }) c.in_ok-staged.ensures.spared
+    c.in_ok-staged.ensures.clear c.settle.ensures.given (λ is. c.stage.ensures.clean (c.settle.ensures.clean is)) c.append-put.ensures.survives c.in_ok-staged.ensures.staged c.in_ok-staged.ensures.lasting
+    (λ w. is_some (session_at w c.args.repo.now c.args.number) ≡ true) c.all_came.result c.settle.result c.settle.ensures.answer asks clean is
+    (λ w. append w c.args.repo.now c.args.number c.args.bytes.now) c.settle.ensures.came
+    (λ m it has clean is. let s = c.source-source.ensures.suits m it in came_so c.append-put.result true c.all_came.result c.all_came.ensures (λ x. x) (c.append-put.ensures.made m s.0 s.1 has clean is))
+    (λ m it has clean is. puts_all c.source-source.result (runs_staged c.in_ok-staged.staged) c.all_came.result (held m (state g.S.Store c.args.conn.now)) (held m (state g.S.Store c.append-put.new.conn)) c.source-source.ensures.runs (came_by (λ v. PutsPlaces c.source-source.result v (held m (state g.S.Store c.args.conn.now)) (held m (state g.S.Store c.append-put.new.conn))) c.append-put.result true c.all_came.result c.all_came.ensures (λ x. x) (c.append-put.ensures.places m (c.source-source.ensures.suits m it).0 clean is)))
+
+pub returns-clause-memory : goal.returns-clause-memory
+returns-clause-memory g c asks clean is wanting =
+    put_wanted g.S.Store g.C.Contents c.args.conn.now c.append-put.new.conn c.args.contents.now c.stage.new.self c.settle.new.contents c.in_ok-staged.staged c.args.bytes.now (record { bytes = c.stage.ensures.bytes; spares = c.stage.ensures.spares; names = c.stage.ensures.names }) c.in_ok-staged.ensures.spared
+    c.in_ok-staged.ensures.clear c.settle.ensures.given (λ is. c.stage.ensures.clean (c.settle.ensures.clean is)) c.append-put.ensures.survives c.in_ok-staged.ensures.staged c.in_ok-staged.ensures.lasting
+    (λ w. is_some (session_at w c.args.repo.now c.args.number) ≡ true) c.all_came.result c.settle.result c.settle.ensures.answer asks clean is
+    (λ m it has clean is wanting. c.append-put.ensures.memory m (c.source-source.ensures.suits m it).0 clean is (came_memory c.append-put.result true c.all_came.result c.all_came.ensures wanting)) wanting
+
+pub returns-clause-crash : goal.returns-clause-crash
+returns-clause-crash g c asks clean is =
+    put_left g.S.Store g.C.Contents c.args.conn.now c.append-put.new.conn c.args.contents.now c.stage.new.self c.settle.new.contents c.in_ok-staged.staged c.args.bytes.now (record { bytes = c.stage.ensures.bytes; spares = c.stage.ensures.spares; names = c.stage.ensures.names }) c.in_ok-staged.ensures.spared
+    c.in_ok-staged.ensures.clear c.settle.ensures.given (λ is. c.stage.ensures.clean (c.settle.ensures.clean is)) c.append-put.ensures.survives c.in_ok-staged.ensures.staged c.in_ok-staged.ensures.lasting
+    (λ w. is_some (session_at w c.args.repo.now c.args.number) ≡ true) c.all_came.result c.settle.result c.settle.ensures.answer asks clean is (λ w. append w c.args.repo.now c.args.number c.args.bytes.now)
+    (λ m it has clean is db may. let s = c.source-source.ensures.suits m it in let out = c.append-put.ensures.crash m s.0 s.1 has clean is db may in (came_so c.append-put.result true c.all_came.result c.all_came.ensures (λ x. x) out.0, out.1))
+
+pub returns-clause-known : goal.returns-clause-known
+returns-clause-known g c asks knows clean is off =
+    put_known g.S.Store g.C.Contents c.args.conn.now c.append-put.new.conn c.args.contents.now c.stage.new.self c.settle.new.contents c.in_ok-staged.staged c.args.bytes.now (record { bytes = c.stage.ensures.bytes; spares = c.stage.ensures.spares; names = c.stage.ensures.names }) c.in_ok-staged.ensures.spared
+    c.in_ok-staged.ensures.clear c.settle.ensures.given (λ is. c.stage.ensures.clean (c.settle.ensures.clean is)) c.append-put.ensures.survives c.in_ok-staged.ensures.staged c.in_ok-staged.ensures.lasting
+    (λ w. is_some (session_at w c.args.repo.now c.args.number) ≡ true) c.all_came.result c.settle.result c.settle.ensures.answer asks clean is c.args.known.now c.append-put.new.known
+    (λ m it k has clean is off. let s = c.source-source.ensures.suits m it in c.append-put.ensures.known m s.0 s.1 k has clean is (all_storage c.append-put.result c.all_came.result c.all_came.ensures off)) knows off

@@ -1,0 +1,3 @@
+pub mod CheckedReads
+pub mod KeepingLemmas
+pub mod Readings

@@ -1,0 +1,4 @@
+pub mod Keeping
+pub mod Staging
+pub mod Reading
+pub mod Lasting

@@ -1,0 +1,11 @@
+//! Where a registry keeps the bytes of its contents, as a trait that the reads and the keeper are generic
+//! over; and the one of its implementations that keeps them in the tables.
+#![tactic(auto)]
+
+mod contents;
+mod staged;
+mod table_contents;
+
+pub use contents::Contents;
+pub use staged::Staged;
+pub use table_contents::TableContents;
