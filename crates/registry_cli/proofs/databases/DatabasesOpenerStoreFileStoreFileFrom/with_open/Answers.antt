@@ -12,7 +12,7 @@ returns-clause-worked g c =
         refl,
         λ honest.
             let before = done.ensures.honest honest in (
-              (c.in-Ok.ensures.unspent, refl, (file_state c.in-Ok.store.conn).now, c.in-Ok.ensures.found before.0, refl),
+              (c.in-Ok.ensures.unspent, refl, (file_state c.in-Ok.store.conn).now, c.in-Ok.ensures.found before.0.0, refl),
               c.in-Ok.ensures.unspent,
               done.ensures.does honest,
             ),
