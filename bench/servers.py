@@ -130,17 +130,17 @@ class Peer:
         self.process.wait()
 
 
-def new_database(executable, path):
+def new_database(executable, path, layout=()):
     """The repositories and a token for them."""
     for repo in (REPO, IMAGES, MANY, LIB):
-        quota = ["--quota", "9223372036854775807"]
-        for order, words in (("repo", quota), ("grant", ["--token", "t1", "--level", "3"])):
+        new = [*layout, "--quota", "9223372036854775807"]
+        for order, words in (("repo", new), ("grant", ["--token", "t1", "--level", "3"])):
             subprocess.run([executable, order, "--db", path, "--name", repo, *words], check=True)
 
 
 def copy_database(path, to):
-    """The file and its log, while no process has them open."""
-    for end in ("", "-wal"):
+    """The file with what is beside it, while no process has them open."""
+    for end in ("", "-wal", "-contents"):
         if os.path.exists(path + end):
             shutil.copy(path + end, to + end)
 

@@ -2,7 +2,8 @@
 
 A server is started on loopback over a new file, images are pushed with curl, the server is ended, and
 sqlite3 reads the file: it is sound, its tables, keys and indexes are those of docs/STORE.md, and the
-bytes that it keeps are the bytes that were pushed. Then a server whose files may not grow past a limit
+bytes that it keeps are the bytes that were pushed; so are those of a registry whose contents are beside it, at the
+places that its rows name. Then a server whose files may not grow past a limit
 is pushed a blob that is larger: the write that the system refuses is answered 500, and on the next
 connection the database is opened again, with everything that was there and nothing of that blob. Over
 standard input, and where an order is refused so, the program ends with status 3. Then a file of schema 1
@@ -21,7 +22,7 @@ import subprocess
 import sys
 import tempfile
 
-from check.file_tables import INDEXES, TABLES, WITHOUT_REPO
+from check.file_tables import INDEXES, INDEXES_BESIDE, TABLES, TABLES_BESIDE, WITHOUT_REPO
 from check.old_file import TABLES as TABLES_OF_SCHEMA_1
 from tools.shared import REGISTRY, digest, free_port
 
@@ -112,10 +113,10 @@ def query(db, text):
     return json.loads(ran.stdout or b"[]")
 
 
-def look_at_tables(db):
+def look_at_tables(db, tables=TABLES, wanted_indexes=INDEXES, version=2):
     listed = {row["name"]: row for row in query(db, "PRAGMA table_list") if row["name"].startswith("registry_")}
-    say(set(listed) == set(TABLES), "the tables are those of the schema")
-    for name, columns in TABLES.items():
+    say(set(listed) == set(tables), "the tables are those of the schema")
+    for name, columns in tables.items():
         found = [(row["name"], row["type"], row["notnull"], row["pk"]) for row in query(db, f"PRAGMA table_info({name})")]
         say(found == columns, f"{name}: its columns and its key{'' if found == columns else f': {found}'}")
         say(listed.get(name, {}).get("strict") == 1, f"{name}: STRICT")
@@ -123,8 +124,8 @@ def look_at_tables(db):
         wanted = [] if name in WITHOUT_REPO else [("registry_repos", "repo", "name", "CASCADE")]
         say(keys == wanted, f"{name}: what goes with a repository")
     indexes = {row["name"] for row in query(db, "SELECT name FROM sqlite_schema WHERE type = 'index' AND sql IS NOT NULL")}
-    say(indexes == INDEXES, f"the indexes: {', '.join(sorted(indexes))}")
-    say(query(db, "SELECT version FROM registry_schema") == [{"version": 2}], "the version is 2")
+    say(indexes == wanted_indexes, f"the indexes: {', '.join(sorted(indexes))}")
+    say(query(db, "SELECT version FROM registry_schema") == [{"version": version}], f"the version is {version}")
 
 
 def look_at_bytes(db, pushed):
@@ -138,26 +139,70 @@ def look_at_bytes(db, pushed):
     )
 
 
+def bytes_beside(db):
+    """The bytes of each content of a registry, by its id, as the rows and the file beside them say (docs/STORE.md,
+    "Contents in a pack"): both are read as they are, by nothing of the registry's."""
+    with open(f"{db}-contents", "rb") as it:
+        file = it.read()
+    (pack,) = query(db, "SELECT hex(mark) AS mark, age FROM registry_pack")
+    for at in (0, 4096):
+        copy = file[at : at + 75]
+        age = int.from_bytes(copy[35:43], "big")
+        is_one = copy[:19] == b"firkhen contents 1\n" and copy[43:] == hashlib.sha256(copy[:43]).digest()
+        say(is_one and copy[19:35].hex().upper() == pack["mark"] and age == pack["age"], f"the head's copy at {at} is of these rows")
+    found = {row["id"]: b"" for row in query(db, "SELECT id FROM registry_contents")}
+    for row in query(db, "SELECT content, start, size, at FROM registry_places ORDER BY content, start"):
+        say(row["at"] % 4096 == 0 and row["at"] >= 8192, f"a content is at a multiple of 4,096 behind the head: {row['at']}")
+        say(row["start"] == len(found[row["content"]]), "and its places follow one another")
+        found[row["content"]] += file[row["at"] : row["at"] + row["size"]]
+    return found
+
+
+def look_at_bytes_beside(db, pushed):
+    kept = bytes_beside(db)
+    say(set(kept.values()) == set(pushed), f"the bytes that are kept are the {len(pushed)} that were pushed")
+    rows = query(db, "SELECT id, sha256, size FROM registry_contents")
+    say(
+        all((row["sha256"], row["size"]) == (hashlib.sha256(kept[row["id"]]).hexdigest(), len(kept[row["id"]])) for row in rows),
+        "each has its own digest and size beside it",
+    )
+    links = query(db, "SELECT digest, content FROM registry_blob_links UNION SELECT digest, content FROM registry_manifest_links")
+    say(all(row["digest"] == digest(kept[row["content"]]) for row in links), "each blob and each manifest is found under its digest")
+
+
 def is_sound(db):
     say(query(db, "PRAGMA integrity_check") == [{"integrity_check": "ok"}], "PRAGMA integrity_check says ok")
     say(query(db, "PRAGMA foreign_key_check") == [], "PRAGMA foreign_key_check finds nothing")
 
 
-def administer(db):
-    registry("repo", "--db", db, "--name", REPO, "--quota", QUOTA)
+def administer(db, *layout):
+    registry("repo", "--db", db, *layout, "--name", REPO, "--quota", QUOTA)
     registry("grant", "--db", db, "--token", "t1", "--name", REPO, "--level", "3")
+
+
+def pushed_to(db):
+    """The bytes of three images that are pushed to a server, of which the first and the last have the same layer."""
+    server = Server(db)
+    try:
+        layer = bytes(i * 7 % 251 for i in range(300_000))
+        return server.push_image("v1", layer) | server.push_image("v2", b"a second layer") | server.push_image("v3", layer)
+    finally:
+        server.end()
+
+
+def look_at_a_file_beside(db):
+    administer(db, "--layout", "beside")
+    pushed = pushed_to(db)
+    say(oct(os.stat(f"{db}-contents").st_mode & 0o777) == "0o600", "the file of contents is its owner's alone")
+    look_at_tables(db, TABLES_BESIDE, INDEXES_BESIDE, 3)
+    look_at_bytes_beside(db, pushed)
+    is_sound(db)
 
 
 def look_at_a_new_file(db):
     administer(db)
-    server = Server(db)
-    try:
-        layer = bytes(i * 7 % 251 for i in range(300_000))
-        pushed = server.push_image("v1", layer) | server.push_image("v2", b"a second layer")
-        # the same layer again: it is kept once
-        pushed |= server.push_image("v3", layer)
-    finally:
-        server.end()
+    # the same layer twice is kept once
+    pushed = pushed_to(db)
     look_at_tables(db)
     look_at_bytes(db, pushed)
     is_sound(db)
@@ -180,6 +225,25 @@ def refuse_a_write(db):
     finally:
         server.end()
     look_at_bytes(db, {before, after})
+    is_sound(db)
+
+
+def refuse_a_write_beside(db):
+    """The same, where it is the file of contents that may not grow: the push has no room, and the storage has not failed."""
+    administer(db, "--layout", "beside")
+    server = Server(db, limit=4 << 20)
+    before, after = b"before the fault", b"after the fault"
+    try:
+        server.push_blob(before)
+        server.push_blob(bytes(i * 11 % 241 for i in range(6 << 20)), wanted="503")
+        say(server.process.poll() is None, "the server goes on")
+        for body, wanted in ((before, "200"), (after, "404")):
+            status, _ = server.curl("GET", f"/v2/{REPO}/blobs/{digest(body)}")
+            say(status == wanted, f"on the next connection a blob of {len(body)} bytes is answered {wanted}: {status}")
+        server.push_blob(after)
+    finally:
+        server.end()
+    look_at_bytes_beside(db, {before, after})
     is_sound(db)
 
 
@@ -363,7 +427,9 @@ def main():
         return 2
     with tempfile.TemporaryDirectory() as room:
         look_at_a_new_file(os.path.join(room, "new.db"))
+        look_at_a_file_beside(os.path.join(room, "beside.db"))
         refuse_a_write(os.path.join(room, "full.db"))
+        refuse_a_write_beside(os.path.join(room, "full_beside.db"))
         refuse_in_one_connection(os.path.join(room, "one.db"))
         take_over_an_old_file(os.path.join(room, "old.db"))
         refuse_to_take_over(os.path.join(room, "notes.db"))

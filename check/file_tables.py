@@ -28,3 +28,13 @@ TABLES = {
 }
 WITHOUT_REPO = {"registry_schema", "registry_repos", "registry_contents"}
 INDEXES = {"registry_manifest_links_subject", "registry_contents_sha256"}
+
+# those of a registry whose contents are beside it
+TABLES_BESIDE = {
+    **TABLES,
+    "registry_pack": [("mark", BLOB, 1, 0), ("age", NUMBER, 1, 0)],
+    "registry_contents": [("id", NUMBER, 0, 1), ("sha256", TEXT, 1, 0), ("size", NUMBER, 1, 0)],
+    "registry_places": [("content", NUMBER, 1, 1), ("start", NUMBER, 1, 2), ("size", NUMBER, 1, 0), ("at", NUMBER, 1, 0)],
+}
+WITHOUT_REPO |= {"registry_pack", "registry_places"}
+INDEXES_BESIDE = INDEXES | {"registry_blob_links_content", "registry_manifest_links_content", "registry_pieces_content"}

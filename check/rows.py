@@ -1,4 +1,4 @@
-"""Plays the worked examples by the program itself, over a file.
+"""Plays the worked examples by the program itself, over a file, and then over one whose contents are beside it.
 
 The examples of crates/registry_examples/data are asked of `registry`: requests by `registry stdio --db`, the
 administrator's commands by its orders, each a process of its own, so that everything stands in the file in
@@ -160,6 +160,14 @@ class Book:
             self.send(number, Request(head.encode(), is_whole=False))
 
 
+# What is said of a new registry: nothing, or that its contents are to be beside it.
+LAYOUT = []
+
+
+def over(db):
+    return ["--db", db, *LAYOUT]
+
+
 def run(*words, given=b""):
     return subprocess.run([REGISTRY, *words], input=given, capture_output=True, timeout=60)
 
@@ -169,13 +177,13 @@ def commanded(db, command):
     name, *rest = command.split(" ")
     repo = lambda it: ["--name", it]
     if name in ("usage", "holds"):
-        rows = [line.split() for line in run("usage", "--db", db).stdout.decode().splitlines()[1:]]
+        rows = [line.split() for line in run("usage", *over(db)).stdout.decode().splitlines()[1:]]
         row = next((row for row in rows if row[-1] == rest[0]), ["-"] * 7)
         used, quota, blobs, manifests, tags, sessions, _ = row
         whole = f"{used} of {quota} bytes, {blobs} blobs, {manifests} manifests, {tags} tags, {sessions} sessions"
         return f"{used} bytes\r\n".encode() if name == "usage" else f"{whole}\r\n".encode()
     if name == "levels":
-        rows = [line.split() for line in run("grants", "--db", db, "--name", rest[0], "--show-tokens").stdout.decode().splitlines()]
+        rows = [line.split() for line in run("grants", *over(db), "--name", rest[0], "--show-tokens").stdout.decode().splitlines()]
         return "".join(f"{token} {LEVEL_NAMES[level]}\r\n" for _, token, level in rows).encode()
     words = {
         "repo": lambda: [*repo(rest[0]), "--quota", rest[1]],
@@ -187,7 +195,7 @@ def commanded(db, command):
         "prune": lambda: repo(rest[0]),
         "clear": lambda: [],
     }[name]()
-    ran = run(name, "--db", db, *words)
+    ran = run(name, *over(db), *words)
     if (ran.returncode, ran.stdout, ran.stderr) == (0, b"", b""):
         return b""
     told = next((fault for fault, line in FAULTS.items() if (ran.returncode, ran.stdout, ran.stderr) == (1, b"", line)), None)
@@ -199,15 +207,15 @@ def play(db, step):
     if isinstance(step.asked, str):
         found = commanded(db, step.asked)
         return found, step.differs(found)
-    ran = run("stdio", "--db", db, given=b"".join(it.text() for it in step.asked))
+    ran = run("stdio", *over(db), given=b"".join(it.text() for it in step.asked))
     if (ran.returncode, ran.stderr) != (0, b""):
         return ran.stdout, f"found {ran.stdout[:300]}, status {ran.returncode} {ran.stderr}"
     return ran.stdout, step.differs(ran.stdout)
 
 
 def rows_that_differ(db, rows):
-    """Where the tables of a file answer another number than the example says."""
-    if not rows:
+    """Where the tables of a file answer another number than the example says; it speaks of those that have contents."""
+    if not rows or LAYOUT:
         return
     tables = sqlite3.connect(db)
     for line, text in rows:
@@ -246,11 +254,11 @@ HEADING = b"                used               quota     blobs manifests      ta
 
 def tables_that_differ(db):
     """Where the table of `usage` is another than it should be: of no repositories, and of one with the largest quota."""
-    found = run("usage", "--db", db)
+    found = run("usage", *over(db))
     if (found.returncode, found.stdout, found.stderr) != (0, HEADING, b""):
         yield found
-    run("repo", "--db", db, "--name", "a", "--quota", "9223372036854775807")
-    found = run("usage", "--db", db)
+    run("repo", *over(db), "--name", "a", "--quota", "9223372036854775807")
+    found = run("usage", *over(db))
     if found.stdout != HEADING + b" " * 19 + b"0 9223372036854775807" + b"         0" * 4 + b" a\n":
         yield found
 
@@ -263,10 +271,10 @@ def lists_that_differ(db):
     levels of two tokens."""
     digest = f"sha256:{hashlib.sha256(b'abc').hexdigest()}"
     for name in ("b", "a"):
-        run("repo", "--db", db, "--name", name, "--quota", "100")
-    run("grant", "--db", db, "--name", "a", "--token", "t1", "--level", "2")
-    run("grant", "--db", db, "--name", "b", "--token", "secret", "--level", "1")
-    run("stdio", "--db", db, given=PUSH % digest.encode())
+        run("repo", *over(db), "--name", name, "--quota", "100")
+    run("grant", *over(db), "--name", "a", "--token", "t1", "--level", "2")
+    run("grant", *over(db), "--name", "b", "--token", "secret", "--level", "1")
+    run("stdio", *over(db), given=PUSH % digest.encode())
     wanted = [
         (("repos",), "a\nb\n"),
         (("repos", "--json"), '[{"name":"a"},{"name":"b"}]\n'),
@@ -288,11 +296,11 @@ def lists_that_differ(db):
         (("grants", "--name", "b"), ""),
     ]
     for words, text in wanted:
-        found = run(words[0], "--db", db, *words[1:])
+        found = run(words[0], *over(db), *words[1:])
         if (found.returncode, found.stdout, found.stderr) != (0, text.encode(), b""):
             yield found
     for word in ("blobs", "grants"):
-        found = run(word, "--db", db, "--name", "c")
+        found = run(word, *over(db), "--name", "c")
         if (found.returncode, found.stdout, found.stderr) != (1, b"", FAULTS["NoRepo"]):
             yield found
 
@@ -302,40 +310,48 @@ def repositories_told_apart(db):
     and no more, on one connection: `abc`, then not `hello`, then `de`."""
     names = [f"a{number}" for number in range(100)]
     for name in names:
-        run("repo", "--db", db, "--name", name, "--quota", "5")
-        run("grant", "--db", db, "--name", name, "--token", "t1", "--level", "2")
+        run("repo", *over(db), "--name", name, "--quota", "5")
+        run("grant", *over(db), "--name", name, "--token", "t1", "--level", "2")
     head = "POST /v2/{}/blobs/uploads/?digest=sha256:{} HTTP/1.1\r\nHost: r\r\nAuthorization: Bearer t1\r\nContent-Length: {}\r\n\r\n"
     asked = [(name, body) for body in (b"abc", b"hello", b"de") for name in names]
     given = b"".join(head.format(name, hashlib.sha256(body).hexdigest(), len(body)).encode() + body for name, body in asked)
-    found = run("stdio", "--db", db, given=given).stdout
+    found = run("stdio", *over(db), given=given).stdout
     statuses = [int(it) for it in re.findall(rb"HTTP/1\.1 (\d+) ", found)]
     if statuses != [201] * 100 + [403] * 100 + [201] * 100:
         yield f"a hundred repositories of 5 bytes: {statuses}"
-    rows = [line.split() for line in run("usage", "--db", db).stdout.decode().splitlines()[1:]]
+    rows = [line.split() for line in run("usage", *over(db)).stdout.decode().splitlines()[1:]]
     if rows != [["5", "5", "2", "0", "0", "0", name] for name in sorted(names)]:
         yield f"a hundred repositories of 5 bytes hold {rows}"
 
 
-def main():
-    book, wrong, played, steps = Book(), 0, 0, 0
+def read():
+    book = Book()
     with open(f"{DATA}/args", encoding="utf-8") as it:
         files = it.read().split()
     for file in files:
         with open(f"{DATA}/data/{file}", encoding="utf-8") as it:
             for number, line in enumerate(it.read().split("\n"), 1):
                 book.take(file, number, line)
-    with tempfile.TemporaryDirectory(dir="/dev/shm" if os.access("/dev/shm", os.W_OK) else None) as room:
-        for example in book.examples:
-            count, why = differences(room, example)
-            played, steps = played + (count > 0), steps + count
-            if why:
-                print(f"WRONG {example.file}:{why[0]} ({example.name}): {why[1]}")
-                wrong += 1
-        for what, differ in (("usage", tables_that_differ), ("lists", lists_that_differ), ("quotas", repositories_told_apart)):
-            for it in differ(f"{room}/{what}.db"):
-                print(f"WRONG {what}: {it}")
-                wrong += 1
-    print(f"{played} worked examples of {steps} steps by the program, over a file: {f'{wrong} wrong' if wrong else 'each as it is written'}")
+    return book
+
+
+def main():
+    book, wrong = read(), 0
+    for where, words in (("a file", []), ("one whose contents are beside it", ["--layout", "beside"])):
+        LAYOUT[:], bad, played, steps = words, 0, 0, 0
+        with tempfile.TemporaryDirectory(dir="/dev/shm" if os.access("/dev/shm", os.W_OK) else None) as room:
+            for example in book.examples:
+                count, why = differences(room, example)
+                played, steps = played + (count > 0), steps + count
+                if why:
+                    print(f"WRONG {example.file}:{why[0]} ({example.name}): {why[1]}")
+                    bad += 1
+            for what, differ in (("usage", tables_that_differ), ("lists", lists_that_differ), ("quotas", repositories_told_apart)):
+                for it in differ(f"{room}/{what}.db"):
+                    print(f"WRONG {what}: {it}")
+                    bad += 1
+        print(f"{played} worked examples of {steps} steps by the program, over {where}: {f'{bad} wrong' if bad else 'each as it is written'}")
+        wrong += bad
     return 1 if wrong else 0
 
 

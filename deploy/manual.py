@@ -31,7 +31,11 @@ The database of the service
 .BR firkhen ;
 the log
 .I registry.db-wal
-beside it is part of it. One process has them open at a time.
+beside it is part of it, and so is
+.I registry.db-contents
+where it was made with
+.BR "\\-\\-layout beside" .
+One process has them open at a time.
 .TP
 .I /run/firkhen/orders.sock
 Where the service takes orders from its own user:
@@ -109,8 +113,9 @@ def completion(told):
     yield "  case $before in"
     yield '    --db | --orders | --token-file) compopt -o filenames; mapfile -t COMPREPLY < <(compgen -f -- "$word"); return ;;'
     yield "    --level) options='1 2 3' ;;"
+    yield "    --layout) options='tables beside' ;;"
     yield "    --login) options='http https' ;;"
-    yield f"    {' | '.join(sorted(valued - {'--db', '--orders', '--token-file', '--level', '--login'}))}) return ;;"
+    yield f"    {' | '.join(sorted(valued - {'--db', '--orders', '--token-file', '--layout', '--level', '--login'}))}) return ;;"
     yield "  esac"
     yield f"  if ((COMP_CWORD == 1)); then options='{names} {' '.join(long_options(told.options))}'; fi"
     yield '  if [ -z "$options" ]; then\n    case ${COMP_WORDS[1]} in'

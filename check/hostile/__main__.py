@@ -9,19 +9,19 @@ The executables are the proved ones that `make build` and `make test` leave. ref
 loaded before a program, lets one growth of memory fail, or the disk stop at one write; `rustc` compiles it.
 Nothing is installed. The status is 1 where something is wrong, and 3 where this cannot be run.
 
-*memory*: rows of the worked examples are played over both keepers with the Nth growth refused, for every N
+*memory*: rows of the worked examples are played over maps and tables with the Nth growth refused, for every N
 up to a run that meets no refusal: each answer is the row's, or says that memory was wanting and is then
 the row's when it is asked for again. Then each order of the administrator's over a file, and a file of schema 1
 that is taken over: it is done, or says `registry: out of memory`, changes nothing, and is done when it is given
 again. A server over a socket answers 503 and goes on; a reply that it has no memory for is 503, and never a 200
 without its body.
-*disk*: each kind of write, over a file whose disk stops at the Nth write or sync, for every N up to a run
-without a stop. What is found afterwards is the world before the write or the one after it, and the one
-after it where the write was answered so. Then a service answers 500 and the program ends with status 3.
-A server one of whose writes fails answers 500, opens the file again and serves the next connection. Then the
-same writes with a system that stops at any place in them: of what was not synced nothing is left, or all, or a
+*disk*: each kind of write, over a file in tables and then over one whose contents are beside it, whose disk stops at
+the Nth write or sync, for every N up to a run without a stop. What is found afterwards is the world before the write or
+the one after it, and the one after it where the write was answered so. Then a service answers 500 and the program ends
+with status 3. A server one of whose writes fails answers 500, opens the file again and serves the next connection. Then
+the same writes with a system that stops at any place in them: of what was not synced nothing is left, or all, or a
 part, as it is drawn. A file of schema 1 that is taken over is such a write.
-*kill*: a server is killed at random moments of pushes, chunks, manifests, tags and deletions; all that was
+*kill*: a server over either is killed at random moments of pushes, chunks, manifests, tags and deletions; all that was
 acknowledged is there, byte for byte, and sqlite3 finds the file sound.
 *uploads*: large bodies of eight connections, cut as drawn, are answered as alone, also where they wait for room to be
 put aside; with a growth of memory refused they are 503; where a write fails amid a chunk all of it is there, or

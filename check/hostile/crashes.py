@@ -7,7 +7,7 @@ from tools.shared import REGISTRY
 from check.hostile.disk import is_opened
 from check.hostile.said import say
 from check.hostile.worlds import copied, parts_of, world
-from check.hostile.writes import WRITES
+from check.hostile.writes import WRITES, WRITES_BESIDE
 
 
 def records(data):
@@ -83,6 +83,7 @@ def crash_in_write(refusing, room, db, name, what, chance):
 
 def crash_in_writes(refusing, room):
     """Each kind of write, and every place where the system may stop in it."""
-    db, chance = f"{room}/crash.db", random.Random(20_261_124)
-    total = sum(crash_in_write(refusing, room, db, name, what, chance) for name, what in WRITES)
-    print(f"      {total} crashes")
+    chance = random.Random(20_261_124)
+    for db, writes in (("crash.db", WRITES), ("crash_beside.db", WRITES_BESIDE)):
+        total = sum(crash_in_write(refusing, room, f"{room}/{db}", name, what, chance) for name, what in writes)
+        print(f"      {total} crashes")

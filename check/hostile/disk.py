@@ -1,11 +1,12 @@
 """A disk that stops at a write, and one of whose writes fails."""
+import os
 import subprocess
 
 from tools.shared import REGISTRY
 from check.hostile.said import say
 from check.hostile.server import pushes_on_sockets
 from check.hostile.worlds import copied, world
-from check.hostile.writes import ABC, FAILED, NO_TOKEN, ORDERS, UNAUTHORIZED, WRITES, push
+from check.hostile.writes import ABC, FAILED, NO_ROOM, NO_TOKEN, ORDERS, UNAUTHORIZED, WRITES, WRITES_BESIDE, push
 
 STOPPED = (3, b"registry: storage failure\n")
 
@@ -25,6 +26,9 @@ def do(refusing, db, what, stop=0):
     if done:
         # the storage may still fail at the end, when the log is put back
         bad = "" if UNAUTHORIZED in ran.stdout and ran.returncode in (0, 3) else f"{ran.returncode} {ran.stdout} {ran.stderr}"
+    elif ran.stdout.startswith(NO_ROOM + UNAUTHORIZED) and os.path.exists(f"{db}-contents"):
+        # the file of contents did not take the bytes: there is no room for them, and the storage has not failed
+        bad = "" if ran.returncode in (0, 3) else f"{ran.returncode} {ran.stderr}"
     elif ran.stdout:
         bad = "" if ran.stdout == FAILED * 2 and (ran.returncode, ran.stderr) == STOPPED else f"{ran.returncode} {ran.stdout} {ran.stderr}"
     else:
@@ -65,8 +69,9 @@ def stop_in_write(refusing, room, db, name, what):
 
 
 def stop_in_writes(refusing, room):
-    total = sum(stop_in_write(refusing, room, f"{room}/stops.db", name, what) for name, what in WRITES)
-    print(f"      {total} stops")
+    for db, writes in (("stops.db", WRITES), ("stops_beside.db", WRITES_BESIDE)):
+        total = sum(stop_in_write(refusing, room, f"{room}/{db}", name, what) for name, what in writes)
+        print(f"      {total} stops")
     write_nowhere(refusing, room)
 
 

@@ -82,7 +82,7 @@ def refuse_in_row(refusing, room, file, name):
 
 def refuse_in_rows(refusing, room, pool):
     for name, played, own, bad in pool.map(refuse_in_row, [refusing] * len(ROWS), [room] * len(ROWS), *zip(*ROWS)):
-        told = f"{name}: {played} growths refused in turn over both keepers, {own} of them the player's own"
+        told = f"{name}: {played} growths refused in turn over maps and tables, {own} of them the player's own"
         say(not bad and played > own, told, bad)
 
 

@@ -1,4 +1,4 @@
-"""What a database file holds, read by sqlite3."""
+"""What a database file holds, read by sqlite3, with the file of contents beside it if there is one."""
 import os
 import shutil
 import sqlite3
@@ -20,15 +20,21 @@ BYTES = {
             LEFT JOIN registry_pieces USING (repo, number) LEFT JOIN registry_contents ON content = id
             ORDER BY repo, number, start""",
     },
+    3: {
+        "blobs": "SELECT repo, digest, bytes_in(content) FROM registry_blob_links",
+        "manifests": "SELECT repo, digest, bytes_in(content) FROM registry_manifest_links",
+        "sessions": """SELECT repo, number, CASE WHEN content IS NULL THEN X'' ELSE bytes_in(content) END
+            FROM registry_uploads LEFT JOIN registry_pieces USING (repo, number) ORDER BY repo, number, start""",
+    },
 }
 
 
 def parts_of(db):
-    return [it for it in (db, db + "-wal", db + "-shm", db + "-journal") if os.path.exists(it)]
+    return [it for it in (db, db + "-wal", db + "-shm", db + "-journal", db + "-contents") if os.path.exists(it)]
 
 
 def copied(db, to):
-    """Copies a database with its log, or takes the copy away where there is none; returns its path."""
+    """Copies a database with what is beside it, or takes the copy away where there is none; returns its path."""
     for it in parts_of(to):
         os.remove(it)
     for it in parts_of(db):
@@ -46,6 +52,16 @@ def world(db):
         return rows(copied(db, f"{room}/read.db"), is_checked=True)
 
 
+def contents_beside(db, ask):
+    """The bytes of each content by its id, at the places of the file of contents that the rows name."""
+    with open(f"{db}-contents", "rb") as it:
+        file = it.read()
+    found = {}
+    for content, at, size in ask("SELECT content, at, size FROM registry_places ORDER BY content, start"):
+        found[content] = found.get(content, b"") + file[at : at + size]
+    return found
+
+
 def rows(db, is_checked=False):
     """The same of a file that nobody reads afterwards, and whether it is sound, where that is asked."""
     con = sqlite3.connect(db)
@@ -56,6 +72,9 @@ def rows(db, is_checked=False):
         if not ask("SELECT 1 FROM sqlite_schema WHERE name = 'registry_schema'"):
             return EMPTY
         ((version,),) = ask("SELECT version FROM registry_schema")
+        if version == 3:
+            beside = contents_beside(db, ask)
+            con.create_function("bytes_in", 1, lambda content: beside.get(content, b""))
         repos = {
             name: {"quota": quota, "last": last, "blobs": {}, "manifests": {}, "tags": {}, "sessions": {}}
             for name, quota, last in ask("SELECT name, quota, last_session FROM registry_repos")
@@ -65,6 +84,8 @@ def rows(db, is_checked=False):
                 repos[repo][part][key] = repos[repo][part].get(key, b"") + kept
         for repo, tag, name in ask("SELECT repo, tag, digest FROM registry_tags"):
             repos[repo]["tags"][tag] = name
-        return repos, sorted(ask("SELECT token, repo, level FROM registry_grants")), version
+        grants = sorted(ask("SELECT token, repo, level FROM registry_grants"))
+        # (the tables of a registry beside are made before its first repository, which may be lacking)
+        return (repos, grants, version) if repos or grants or version < 3 else EMPTY
     finally:
         con.close()

@@ -49,6 +49,7 @@ MANIFEST = json.dumps(
 AT = "/v2/team/app"
 NO_TOKEN = b"GET /v2/ HTTP/1.1\r\nHost: r\r\n\r\n"
 FAILED = b"HTTP/1.1 500 Internal Server Error\r\nContent-Length: 0\r\n\r\n"
+NO_ROOM = b"HTTP/1.1 503 Service Unavailable\r\nContent-Length: 0\r\n\r\n"
 UNAUTHORIZED = b"HTTP/1.1 401 "
 
 
@@ -89,3 +90,6 @@ WRITES = [
     ("revoke every level", ORDERS[10]),
     ("drop a repository", ORDERS[11]),
 ]
+
+# The same over a registry whose contents are beside its database.
+WRITES_BESIDE = [("add a repository beside", order("repo", "--layout", "beside", "--name", "team/app", "--quota", "1000")), *WRITES[1:]]

@@ -31,6 +31,10 @@ most = 9223372036854775807
 abbrev pub db : Rule
 db = option (codes "db")
 
+-- how a new registry keeps contents
+abbrev pub layout : Rule
+layout = option (codes "layout")
+
 abbrev pub orders : Rule
 orders = option (codes "orders")
 
@@ -98,12 +102,12 @@ subcommand word options = record (new_shape word) { rules = options }
 
 abbrev pub serve : Shape
 serve = subcommand (codes "serve")
-    (db ∷ memory ∷ begin_repo ∷ begin_grant ∷ listen ∷ connections ∷ at_once ∷ buffer ∷ staged ∷ idle
+    (db ∷ layout ∷ memory ∷ begin_repo ∷ begin_grant ∷ listen ∷ connections ∷ at_once ∷ buffer ∷ staged ∷ idle
     ∷ orders ∷ flag (codes "log") ∷ flag (codes "stop-at-eof") ∷ login ∷ health ∷ [])
 
 abbrev pub stdio : Shape
 stdio = subcommand (codes "stdio")
-    (db ∷ memory ∷ begin_repo ∷ begin_grant ∷ login ∷ health ∷ [])
+    (db ∷ layout ∷ memory ∷ begin_repo ∷ begin_grant ∷ login ∷ health ∷ [])
 
 -- over a database that no server holds
 abbrev pub over_database : Text → Shape
@@ -114,36 +118,37 @@ stop = subcommand (codes "stop") (required orders ∷ [])
 
 -- an order wants one of `--db` and `--orders`
 abbrev pub ordering : Text → Shape
-ordering word = subcommand word (db ∷ orders ∷ [])
+ordering word = subcommand word (db ∷ layout ∷ orders ∷ [])
 
 abbrev pub over_repo : Text → Shape
-over_repo word = subcommand word (db ∷ orders ∷ name ∷ [])
+over_repo word = subcommand word (db ∷ layout ∷ orders ∷ name ∷ [])
 
 abbrev pub over_quota : Text → Shape
-over_quota word = subcommand word (db ∷ orders ∷ name ∷ quota ∷ [])
+over_quota word = subcommand word (db ∷ layout ∷ orders ∷ name ∷ quota ∷ [])
 
 abbrev pub grant : Shape
-grant = subcommand (codes "grant") (db ∷ orders ∷ token ∷ token_file ∷ name ∷ level ∷ [])
+grant = subcommand (codes "grant") (db ∷ layout ∷ orders ∷ token ∷ token_file ∷ name ∷ level ∷ [])
 
 -- without a name, all levels of the token go
 abbrev pub revoke : Shape
-revoke = subcommand (codes "revoke") (db ∷ orders ∷ token ∷ token_file ∷ name_if ∷ [])
+revoke = subcommand (codes "revoke") (db ∷ layout ∷ orders ∷ token ∷ token_file ∷ name_if ∷ [])
 
 -- `--dry-run` lists what pruning would take away
 abbrev pub prune : Shape
-prune = subcommand (codes "prune") (db ∷ orders ∷ name ∷ flag (codes "dry-run") ∷ [])
+prune = subcommand (codes "prune") (db ∷ layout ∷ orders ∷ name ∷ flag (codes "dry-run") ∷ [])
 
 -- a list is of lines, or of JSON
 abbrev pub listing : Text → Shape
-listing word = subcommand word (db ∷ orders ∷ flag (codes "json") ∷ [])
+listing word = subcommand word (db ∷ layout ∷ orders ∷ flag (codes "json") ∷ [])
 
 abbrev pub listing_of_repo : Text → Shape
-listing_of_repo word = subcommand word (db ∷ orders ∷ name ∷ flag (codes "json") ∷ [])
+listing_of_repo word = subcommand word (db ∷ layout ∷ orders ∷ name ∷ flag (codes "json") ∷ [])
 
 -- of one token or of all, on one repository or on all
 abbrev pub listing_of_grants : Shape
 listing_of_grants = subcommand (codes "grants")
-    (db ∷ orders ∷ token ∷ token_file ∷ name_if ∷ flag (codes "show-tokens") ∷ flag (codes "json") ∷ [])
+    (db ∷ layout ∷ orders ∷ token ∷ token_file ∷ name_if ∷ flag (codes "show-tokens") ∷ flag (codes "json")
+    ∷ [])
 
 abbrev pub repo_commands : List Shape
 repo_commands = over_quota (codes "repo") ∷ over_quota (codes "quota") ∷ over_repo (codes "drop")

@@ -59,6 +59,13 @@ const DATABASE_WANTED: SubOption<'static> = SubOption {
     help: "The database file",
 };
 
+/// Of a registry that is made at a path where none is.
+const LAYOUT: SubOption<'static> = SubOption {
+    word: "layout",
+    takes: Takes::One("LAYOUT"),
+    help: "How a new registry keeps contents: tables (default), or beside, in PATH-contents",
+};
+
 const ORDERS: SubOption<'static> = SubOption {
     word: "orders",
     takes: Takes::One("PATH"),
@@ -132,6 +139,7 @@ const BEGIN_GRANT: SubOption<'static> = SubOption {
 
 pub const STDIO: &[SubOption<'static>] = &[
     DATABASE,
+    LAYOUT,
     MEMORY,
     BEGIN_REPO,
     BEGIN_GRANT,
@@ -142,6 +150,7 @@ pub const STDIO: &[SubOption<'static>] = &[
 /// Of one that serves connections within limits.
 pub const SERVE: &[SubOption<'static>] = &[
     DATABASE,
+    LAYOUT,
     MEMORY,
     BEGIN_REPO,
     BEGIN_GRANT,
@@ -228,14 +237,15 @@ pub const STOP: &[SubOption<'static>] = &[SubOption {
 pub const OVER_DATABASE: &[SubOption<'static>] = &[DATABASE_WANTED];
 
 /// Of one that orders something, of a database or of the server that holds it.
-pub const ORDERING: &[SubOption<'static>] = &[DATABASE, ORDERS];
+pub const ORDERING: &[SubOption<'static>] = &[DATABASE, LAYOUT, ORDERS];
 
 /// Of one over a repository.
-pub const OVER_REPO: &[SubOption<'static>] = &[DATABASE, ORDERS, NAME];
+pub const OVER_REPO: &[SubOption<'static>] = &[DATABASE, LAYOUT, ORDERS, NAME];
 
 /// Of one that sets the repository's quota.
 pub const OVER_QUOTA: &[SubOption<'static>] = &[
     DATABASE,
+    LAYOUT,
     ORDERS,
     NAME,
     SubOption {
@@ -252,6 +262,7 @@ pub const OVER_QUOTA: &[SubOption<'static>] = &[
 /// Of one that takes away what no manifest names, or lists it.
 pub const PRUNE: &[SubOption<'static>] = &[
     DATABASE,
+    LAYOUT,
     ORDERS,
     NAME,
     SubOption {
@@ -262,14 +273,15 @@ pub const PRUNE: &[SubOption<'static>] = &[
 ];
 
 /// Of one that lists something.
-pub const LISTING: &[SubOption<'static>] = &[DATABASE, ORDERS, JSON];
+pub const LISTING: &[SubOption<'static>] = &[DATABASE, LAYOUT, ORDERS, JSON];
 
 /// Of one that lists something of a repository.
-pub const LISTING_OF_REPO: &[SubOption<'static>] = &[DATABASE, ORDERS, NAME, JSON];
+pub const LISTING_OF_REPO: &[SubOption<'static>] = &[DATABASE, LAYOUT, ORDERS, NAME, JSON];
 
 /// Of one that lists the levels of one token or of all, on one repository or on all.
 pub const LISTING_OF_GRANTS: &[SubOption<'static>] = &[
     DATABASE,
+    LAYOUT,
     ORDERS,
     TOKEN,
     TOKEN_FILE,
@@ -284,6 +296,7 @@ pub const LISTING_OF_GRANTS: &[SubOption<'static>] = &[
 
 pub const GRANT: &[SubOption<'static>] = &[
     DATABASE,
+    LAYOUT,
     ORDERS,
     TOKEN,
     TOKEN_FILE,
@@ -300,4 +313,4 @@ pub const GRANT: &[SubOption<'static>] = &[
 ];
 
 /// Of one that takes a level away, or all of a token's levels.
-pub const REVOKE: &[SubOption<'static>] = &[DATABASE, ORDERS, TOKEN, TOKEN_FILE, NAME_IF];
+pub const REVOKE: &[SubOption<'static>] = &[DATABASE, LAYOUT, ORDERS, TOKEN, TOKEN_FILE, NAME_IF];

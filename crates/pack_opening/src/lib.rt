@@ -6,5 +6,5 @@ mod opening;
 #[cfg(test)]
 mod tests;
 
-pub use making::create_tables;
+pub use making::{create_tables, is_bare};
 pub use opening::{find_version, take_up_pack};

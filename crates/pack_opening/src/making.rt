@@ -145,8 +145,8 @@ fn create<S: Alter>(conn: &mut Connection<S>, mark: &[u8; 16]) -> Result<(), Ope
     }
 }
 
-/// Whether the database has no table, index or view.
-fn is_bare<S: Alter>(conn: &Connection<S>) -> bool
+/// Whether the database has no table, index or view. Reads no row.
+pub fn is_bare<S: Alter>(conn: &Connection<S>) -> bool
     ensures { IsTrue result ↔ ((state S.Store conn.now).now.schema ≡ no_schema) }
 {
     let schema = conn.schema();

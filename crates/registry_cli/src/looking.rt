@@ -75,7 +75,7 @@ fn cause_of_kind(rt: &HostRuntime, path: &str) -> Cause {
 }
 
 /// What is wrong where the files of a database cannot be opened.
-fn cause_of_opening(rt: &HostRuntime, path: &str, kind: ErrorKind) -> Option<Cause> {
+pub(crate) fn cause_of_opening(rt: &HostRuntime, path: &str, kind: ErrorKind) -> Option<Cause> {
     match kind {
         ErrorKind::NotFound | ErrorKind::NotADirectory => Some(Cause::NoFolder),
         ErrorKind::PermissionDenied => Some(cause_of_denial(rt, path)),

@@ -7,11 +7,14 @@
 #![tactic(auto)]
 
 mod beginning;
+mod contents_file;
 mod databases;
 mod files;
 mod looking;
 mod progress;
+mod refusal;
 mod stored;
+mod supposed;
 
 use registry_orders::Failure;
 use registry_orders::failure::say;
@@ -26,7 +29,7 @@ fn words(rt: &HostRuntime) -> Option<Vec<String>> {
 
 fn main(rt: HostRuntime) -> ExitCode {
     let status = match words(&rt) {
-        Some(words) => files::run::<Unknown, _, _, _, _>(
+        Some(words) => files::run::<Unknown, Unknown, _, _, _, _>(
             &rt,
             words.as_slice(),
             &mut rt.stdin(),

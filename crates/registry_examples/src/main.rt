@@ -4,25 +4,19 @@
 //! a run that lacked memory of its own is told from one in which the registry answered wrongly.
 #![tactic(auto)]
 
-mod book;
 mod commands;
 mod difference;
 mod documents;
-mod line;
 mod patience;
 mod playing;
-mod reader;
-mod requests;
 mod rows;
 mod serving;
 mod texts;
-mod words;
 
 use anyhow::Result;
-use book::{Book, Kind, Section};
+use example_files::{Book, Kind, Reader, Section};
 use patience::Patience;
-use playing::{Play, Told, differs_over_maps, differs_over_tables};
-use reader::Reader;
+use playing::{Play, Told, differs_over_maps, differs_over_pack, differs_over_tables};
 use serving::Way;
 use std::process::ExitCode;
 use std::{env, fs};
@@ -58,7 +52,7 @@ fn asked_patience(rt: &HostRuntime) -> Result<Patience> {
     Ok(Patience::None)
 }
 
-/// Prints `ok` for each example that is answered as it says over both keepers, or where it first
+/// Prints `ok` for each example that is answered as it says over each keeper, or where it first
 /// differs; whether none did.
 fn play_all(rt: &HostRuntime, book: &Book, patience: Patience) -> Result<bool> {
     let mut are_ok = true;
@@ -76,13 +70,20 @@ fn play_all(rt: &HostRuntime, book: &Book, patience: Patience) -> Result<bool> {
     Ok(are_ok)
 }
 
+/// Plays an example over each keeper: with patience, whose plays are played again and again, over maps and
+/// tables alone.
 fn play_one(rt: &HostRuntime, play: Play, example: &Section) -> Result<bool> {
     let mut told = Told::new(rt.alloc());
     let over_maps = differs_over_maps(play, example, &mut told)?;
     let over_tables = differs_over_tables(play, example, &mut told)?;
-    let is_ok = over_maps.is_none() && over_tables.is_none();
+    let over_pack = match play.patience {
+        Patience::None => differs_over_pack(play, example, &mut told)?,
+        Patience::Once => None,
+    };
+    let is_ok = over_maps.is_none() && over_tables.is_none() && over_pack.is_none();
     print_difference(rt, example, "maps", &over_maps)?;
     print_difference(rt, example, "tables", &over_tables)?;
+    print_difference(rt, example, "pack", &over_pack)?;
     if is_ok {
         let (file, name) = (example.file.as_str(), example.name.as_str());
         println!(rt; "{file}: {name} ok")?;

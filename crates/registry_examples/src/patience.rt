@@ -1,7 +1,7 @@
 //! What is done where the registry answers that memory was wanting.
 
-use crate::book::Asked;
 use crate::serving::{Answer, Way};
+use example_files::Asked;
 
 /// How often what wants memory is asked again.
 #[derive(Clone, Copy, Debug, PartialEq, Eq)]

@@ -1,4 +1,3 @@
-use crate::book::{Asked, Beginning, Book, Section, Step};
 use crate::commands::commanded;
 use crate::difference::first_difference;
 use crate::documents::{fault_in, reading_of};
@@ -7,13 +6,19 @@ use crate::rows::differs_in_rows;
 use crate::serving::{Answer, Way, served};
 use crate::texts::reading_by;
 use anyhow::{Context, Result};
+use example_files::{Asked, Beginning, Book, Section, Step};
 use registry_maps::MapKeeper;
 use registry_model::Keeper;
 use registry_service::Service;
-use registry_store::{OpenFault, Store};
+use registry_store::{OpenFault, Ours, Reclaim, Store};
 use sqlite::Alter;
+use sqlite_disk::Memory;
 use std::alloc::Global;
 use std::str;
+use store_bytes::Contents;
+
+/// The mark of each pack: none is opened again.
+const MARK: [u8; 16] = *b"worked examples.";
 
 /// How examples of a book are played.
 #[derive(Clone, Copy)]
@@ -109,19 +114,51 @@ fn differs_in_tables(
     }
 }
 
-/// The same over a store, whatever its tables are kept in.
-fn differs_over<S: Alter + Drop>(
+/// Where the answers over a database and a pack in memory differ from them.
+pub fn differs_over_pack(play: Play, example: &Section, told: &mut Told) -> Result<Option<String>> {
+    for beginning in example.beginnings.iter() {
+        match differs_in_pack(play, beginning, example, told) {
+            Ok(None) => {}
+            ended => return ended,
+        }
+    }
+    Ok(None)
+}
+
+/// The same behind one beginning.
+fn differs_in_pack(
     play: Play,
-    keeper: Store<S>,
+    beginning: &Beginning,
+    example: &Section,
+    told: &mut Told,
+) -> Result<Option<String>> {
+    let alloc = play.alloc;
+    let made = match Store::in_pack(alloc, Memory::new(alloc), MARK) {
+        Err(OpenFault::Memory) => Store::in_pack(alloc, Memory::new(alloc), MARK),
+        made => made,
+    };
+    match made {
+        Ok(keeper) => differs_over(play, keeper, beginning, example, told),
+        Err(_) => Ok(Some(String::from_str(alloc, "no store is made")?)),
+    }
+}
+
+/// The same over a store, whatever its tables are kept in, and wherever its bytes are. Rows are those of a
+/// store whose bytes are in its tables.
+fn differs_over<S: Alter + Drop, C: Reclaim>(
+    play: Play,
+    keeper: Store<S, Ours, C>,
     beginning: &Beginning,
     example: &Section,
     told: &mut Told,
 ) -> Result<Option<String>> {
     let mut registry = Service::new(keeper);
     let difference = differs(play, &mut registry, beginning, example, told);
-    let mut tables = registry.into_keeper().into_connection();
+    let (mut tables, contents) = registry.into_keeper().into_parts();
     match difference {
-        Ok(None) if beginning.noise.is_none() => differs_in_rows(play.alloc, &mut tables, example),
+        Ok(None) if beginning.noise.is_none() && contents.are_in_tables() => {
+            differs_in_rows(play.alloc, &mut tables, example)
+        }
         ended => ended,
     }
 }

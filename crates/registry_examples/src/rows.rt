@@ -1,7 +1,7 @@
 //! What the tables of a store hold behind an example, asked in SQL.
 
-use crate::book::Section;
 use anyhow::Result;
+use example_files::Section;
 use sqlite::{Alter, Connection};
 use std::alloc::Global;
 

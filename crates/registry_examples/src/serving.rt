@@ -1,7 +1,7 @@
 //! The ways in which a connection is served: whole, in pieces, and one request a turn.
 
-use crate::requests::Request;
 use anyhow::{Result, bail};
+use example_files::Request;
 use registry_model::{Keeper, Settings};
 use registry_server::{Conversation, FieldRoom, Step, serve_connection};
 use registry_service::Service;

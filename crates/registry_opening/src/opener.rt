@@ -5,7 +5,7 @@ ghost use Rattle.registry_orders.specs.Failures.{IsOfOpening};
 
 use crate::work::Work;
 use registry_model::Keeper;
-use registry_orders::{Cause, Failure};
+use registry_orders::{Cause, Failure, Layout};
 
 /// What opens registries over databases; `K` is the keeper that an opening gives.
 pub trait Opener<K: Keeper> {
@@ -16,10 +16,16 @@ pub trait Opener<K: Keeper> {
     ghost had: { Self → List (Deed K) → Type 0 };
 
     /// Opens the registry at a path, which stands as it was given, has the work done over it, and closes it:
-    /// what was written is copied into its database first, so that one file holds all; where that fails, the
-    /// log beside the file has it, as where a program is killed. An error is one of memory, storage or
-    /// schema, or that the database is no registry, and then no work was done.
-    fn with_open<W: Work<K>>(&mut self, path: &str, work: &mut W) -> Result<W::Told, Failure>
+    /// what was written is copied from the log into its database first; where that fails, the log beside it
+    /// has it, as where a program is killed. A new one keeps its contents as `layout` says; one that is there
+    /// is opened as what it is. An error is one of memory, storage or schema, or that the database is no
+    /// registry, and then no work was done.
+    fn with_open<W: Work<K>>(
+        &mut self,
+        path: &str,
+        layout: Layout,
+        work: &mut W,
+    ) -> Result<W::Told, Failure>
         ensures worked { IfOk result (λ told.
             Once (between K.is_honest K.kept opens (had self.old) (had self.new)) path.now
             (λ s s'. W.does work.old s told work.new s')) }

@@ -4,7 +4,7 @@ use Rattle.std.specs.Prelude.{◌==◌, ◌||◌, codes, if◌then◌else◌}
 use Rattle.std.proofs.lemmas.List.Folds.{list_any-append}
 use Rattle.oci_types.specs.Text.{Text}
 use Rattle.registry_orders.specs.declared.cause.Cause.{Cause}
-use Rattle.registry_orders.specs.declared.cause.Cause.TheVariants.{InUse, NoFolder, IsFolder, NoFileName, NoPlainFile, NoRightToRead, NoRightToWrite, ReadOnly, NoDatabase, Journal, DiskFull, NoRegistry, PortInUse, NoAddress, NoHost, Elsewhere, NoRightToPort, RegistryOptions, LoginOptions, TokenOptions, PlaceOptions, NoFile, Unreadable, NoToken, NoServer, ServerThere, NoSocket}
+use Rattle.registry_orders.specs.declared.cause.Cause.TheVariants.{InUse, NoFolder, IsFolder, NoFileName, NoPlainFile, NoRightToRead, NoRightToWrite, ReadOnly, NoDatabase, Journal, DiskFull, NoRegistry, NoContents, ForeignContents, ShortContents, NewerContents, ContentsThere, PortInUse, NoAddress, NoHost, Elsewhere, NoRightToPort, RegistryOptions, LoginOptions, LayoutOptions, TokenOptions, PlaceOptions, NoFile, Unreadable, NoToken, NoServer, ServerThere, NoSocket}
 use Rattle.registry_orders.specs.Outputs.{newline}
 use Rattle.registry_orders.specs.Causes.{words_of, reason_of, has_line_end, line_if, IsAtMostOneLine}
 
@@ -21,6 +21,11 @@ words_end_nowhere NoDatabase = refl
 words_end_nowhere Journal = refl
 words_end_nowhere DiskFull = refl
 words_end_nowhere NoRegistry = refl
+words_end_nowhere NoContents = refl
+words_end_nowhere ForeignContents = refl
+words_end_nowhere ShortContents = refl
+words_end_nowhere NewerContents = refl
+words_end_nowhere ContentsThere = refl
 words_end_nowhere PortInUse = refl
 words_end_nowhere NoAddress = refl
 words_end_nowhere NoHost = refl
@@ -28,6 +33,7 @@ words_end_nowhere Elsewhere = refl
 words_end_nowhere NoRightToPort = refl
 words_end_nowhere RegistryOptions = refl
 words_end_nowhere LoginOptions = refl
+words_end_nowhere LayoutOptions = refl
 words_end_nowhere TokenOptions = refl
 words_end_nowhere PlaceOptions = refl
 words_end_nowhere NoFile = refl

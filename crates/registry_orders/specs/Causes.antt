@@ -3,7 +3,7 @@ use Rattle.std.specs.Prelude.{◌≡◌, ◌⊎◌, ◌==◌, Bool, false, Optio
 use Rattle.std.specs.List.{list_any}
 use Rattle.oci_types.specs.Text.{Text}
 use Rattle.registry_orders.specs.declared.cause.Cause.{Cause}
-use Rattle.registry_orders.specs.declared.cause.Cause.TheVariants.{InUse, NoFolder, IsFolder, NoFileName, NoPlainFile, NoRightToRead, NoRightToWrite, ReadOnly, NoDatabase, Journal, DiskFull, NoRegistry, PortInUse, NoAddress, NoHost, Elsewhere, NoRightToPort, RegistryOptions, LoginOptions, TokenOptions, PlaceOptions, NoFile, Unreadable, NoToken, NoServer, ServerThere, NoSocket}
+use Rattle.registry_orders.specs.declared.cause.Cause.TheVariants.{InUse, NoFolder, IsFolder, NoFileName, NoPlainFile, NoRightToRead, NoRightToWrite, ReadOnly, NoDatabase, Journal, DiskFull, NoRegistry, NoContents, ForeignContents, ShortContents, NewerContents, ContentsThere, PortInUse, NoAddress, NoHost, Elsewhere, NoRightToPort, RegistryOptions, LoginOptions, LayoutOptions, TokenOptions, PlaceOptions, NoFile, Unreadable, NoToken, NoServer, ServerThere, NoSocket}
 use Rattle.registry_orders.specs.declared.failure.Failure.{Failure}
 use Rattle.registry_orders.specs.Failures.{text_of}
 use Rattle.registry_orders.specs.Outputs.{newline}
@@ -21,6 +21,11 @@ words_of NoDatabase = codes "no database, but a file of another kind"
 words_of Journal = codes "has a rollback journal beside it, which sqlite3 has to play back"
 words_of DiskFull = codes "the disk is full"
 words_of NoRegistry = codes "a database, but no registry's"
+words_of NoContents = codes "its file of contents is not there, or is no file of contents"
+words_of ForeignContents = codes "its file of contents belongs to another registry"
+words_of ShortContents = codes "its file of contents is shorter than its rows say"
+words_of NewerContents = codes "its file of contents is newer than the database, an older copy"
+words_of ContentsThere = codes "a file of contents is there already, of another registry or of none"
 words_of PortInUse = codes "port in use"
 words_of NoAddress = codes "not an address"
 words_of NoHost = codes "no address is known for this name"
@@ -29,6 +34,7 @@ words_of NoRightToPort = codes "no right to the port"
 words_of RegistryOptions =
     codes "wants --db PATH, or --memory with --repo NAME=QUOTA and --grant TOKEN=NAME=LEVEL"
 words_of LoginOptions = codes "wants --login http or --login https"
+words_of LayoutOptions = codes "wants --layout tables or --layout beside, with --db PATH"
 words_of TokenOptions = codes "wants one of --token TOKEN and --token-file PATH"
 words_of PlaceOptions = codes "wants one of --db PATH and --orders PATH"
 words_of NoFile = codes "no such file"

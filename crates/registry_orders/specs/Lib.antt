@@ -10,6 +10,7 @@ pub mod Causes
 pub mod Tokens
 pub mod Orders
 pub mod Places
+pub mod Layouts
 pub mod Served
 pub mod Tasks
 pub mod Outputs

@@ -7,6 +7,7 @@ use Rattle.registry_orders.specs.declared.served.Served.TheVariants as served
 use Rattle.registry_orders.specs.declared.tasks.Task.{Task}
 use Rattle.registry_orders.specs.declared.tasks.Task.TheVariants.{Memory, Stored, Server, Order, TokenOrder, Check, Migration, Stop}
 use Rattle.command_line.specs.CommandLine.{registry}
+use Rattle.registry_orders.specs.Layouts.{IsLayoutIn}
 use Rattle.registry_orders.specs.Limits.{AreLimitsIn}
 use Rattle.registry_orders.specs.Options.{HasFlag, IsNumberOf}
 use Rattle.registry_orders.specs.Orders.{HasValue, IsOrderIn, IsTokenOrderIn}
@@ -25,16 +26,21 @@ pub record IsBesideIn (options : List Row) (b : Beside) : Type 0 where
 -- the word of the subcommand, and the options that it was given, say what the task is
 abbrev pub IsTaskIn : Text → List Row → Task → Type 0
 IsTaskIn word options (Memory setup settings) =
-    (word ≡ codes "stdio") × IsServedIn options (served.Memory setup) × AreSettingsIn options settings
-IsTaskIn word options (Stored path settings) =
-    (word ≡ codes "stdio") × IsServedIn options (served.Stored path) × AreSettingsIn options settings
-IsTaskIn word options (Server over address connections limits beside settings) =
-    (word ≡ codes "serve") × IsServedIn options over × HasValue options (codes "listen") address.now
+    (word ≡ codes "stdio") × IsServedIn options (served.Memory setup)
+    × (first_of (codes "layout") options ≡ None) × AreSettingsIn options settings
+IsTaskIn word options (Stored path layout settings) =
+    (word ≡ codes "stdio") × IsServedIn options (served.Stored path) × IsLayoutIn options layout
+    × AreSettingsIn options settings
+IsTaskIn word options (Server over layout address connections limits beside settings) =
+    (word ≡ codes "serve") × IsServedIn options over × IsLayoutIn options layout
+    × HasValue options (codes "listen") address.now
     × IsNumberOf (one_of (codes "connections") options) connections × AreLimitsIn options limits
     × IsBesideIn options beside × AreSettingsIn options settings
-IsTaskIn word options (Order place order) = IsPlaceIn options place × IsOrderIn word options order
-IsTaskIn word options (TokenOrder place source order) =
-    IsPlaceIn options place × IsTokenFrom options source × IsTokenOrderIn word options order
+IsTaskIn word options (Order place layout order) =
+    IsPlaceIn options place × IsLayoutIn options layout × IsOrderIn word options order
+IsTaskIn word options (TokenOrder place layout source order) =
+    IsPlaceIn options place × IsLayoutIn options layout × IsTokenFrom options source
+    × IsTokenOrderIn word options order
 IsTaskIn word options (Check path) = (word ≡ codes "check") × HasValue options (codes "db") path.now
 IsTaskIn word options (Migration path) = (word ≡ codes "migrate") × HasValue options (codes "db") path.now
 IsTaskIn word options (Stop path) = (word ≡ codes "stop") × HasValue options (codes "orders") path.now

@@ -32,6 +32,14 @@ pub enum Cause {
     DiskFull,
     /// The database a database, but no registry's.
     NoRegistry,
+    /// A registry keeps its contents beside its database, and there is no file of them.
+    NoContents,
+    ForeignContents,
+    ShortContents,
+    /// The database is an older copy than the file.
+    NewerContents,
+    /// A new registry is to have a file of contents where one is.
+    ContentsThere,
     PortInUse,
     NoAddress,
     NoHost,
@@ -42,6 +50,8 @@ pub enum Cause {
     RegistryOptions,
     /// The scheme by which clients log in is none.
     LoginOptions,
+    /// How a new registry keeps contents is given without a database, or names no layout.
+    LayoutOptions,
     /// A token is given twice, or not at all.
     TokenOptions,
     /// The place of an order is given twice, or not at all.
@@ -78,6 +88,13 @@ impl Cause {
             Cause::Journal => "has a rollback journal beside it, which sqlite3 has to play back",
             Cause::DiskFull => "the disk is full",
             Cause::NoRegistry => "a database, but no registry's",
+            Cause::NoContents => "its file of contents is not there, or is no file of contents",
+            Cause::ForeignContents => "its file of contents belongs to another registry",
+            Cause::ShortContents => "its file of contents is shorter than its rows say",
+            Cause::NewerContents =>
+                "its file of contents is newer than the database, an older copy",
+            Cause::ContentsThere =>
+                "a file of contents is there already, of another registry or of none",
             Cause::PortInUse => "port in use",
             Cause::NoAddress => "not an address",
             Cause::NoHost => "no address is known for this name",
@@ -87,6 +104,7 @@ impl Cause {
                 "wants --db PATH, or --memory with --repo NAME=QUOTA and --grant TOKEN=NAME=LEVEL"
             }
             Cause::LoginOptions => "wants --login http or --login https",
+            Cause::LayoutOptions => "wants --layout tables or --layout beside, with --db PATH",
             Cause::TokenOptions => "wants one of --token TOKEN and --token-file PATH",
             Cause::PlaceOptions => "wants one of --db PATH and --orders PATH",
             Cause::NoFile => "no such file",

@@ -28,7 +28,8 @@ fn read_matches<'a>(alloc: Global, matches: &ArgMatches<'a>) -> Result<Task<'a>,
 }
 
 /// Reads the words: what `clap` refuses is told first, then options that do not go together or do not
-/// split, of which the place of an order is told before its token, then a name, then a token that is none.
+/// split, of which the place of an order is told before its layout and its token, then a name, then a token
+/// that is none.
 /// No database is opened here, and no server is asked.
 pub fn read_words<'a, S: AsStr>(alloc: Global, words: &'a [S]) -> Result<Task<'a>, Told<'a>>
     ensures read { IfOk result (IsTask (map S.text words.entry.now)) }

@@ -7,6 +7,7 @@ ghost use Rattle.registry_orders.specs.Tasks.{IsTaskIn};
 use crate::beside::{Beside, beside_given};
 use crate::failure::Failure;
 use crate::given::{number_given, text_given};
+use crate::layout::{Layout, layout_given};
 use crate::limits::{Limits, limits_given};
 use crate::options::Setup;
 use crate::orders::{Order, TokenOrder, read_order, read_token_order};
@@ -26,14 +27,17 @@ pub enum Task<'a> {
         setup: Setup,
         settings: Settings,
     },
-    /// Serve standard input over the registry at a path, with these settings.
+    /// Serve standard input over the registry at a path, with these settings. One that is not there is made,
+    /// here and below, with this layout.
     Stored {
         path: &'a str,
+        layout: Layout,
         settings: Settings,
     },
     /// Serve an address over a registry, so many connections, within these limits.
     Server {
         served: Served<'a>,
+        layout: Layout,
         address: &'a str,
         connections: u64,
         limits: Limits,
@@ -43,11 +47,13 @@ pub enum Task<'a> {
     /// Carry out an order, here or by a server.
     Order {
         place: Place<'a>,
+        layout: Layout,
         order: Order,
     },
     /// Carry out an order with a token that is read elsewhere, here or by a server.
     TokenOrder {
         place: Place<'a>,
+        layout: Layout,
         source: TokenSource<'a>,
         order: TokenOrder,
     },
@@ -71,9 +77,14 @@ fn stdio_task<'a>(alloc: Global, matches: &ArgMatches<'a>) -> Result<Task<'a>, F
     ensures refused { IfErr result IsOfWords }
 {
     let settings = settings_given(matches)?;
+    let layout = layout_given(matches)?;
     match served_given(alloc, matches)? {
         Served::Memory(setup) => Ok(Task::Memory { setup, settings }),
-        Served::Stored(path) => Ok(Task::Stored { path, settings }),
+        Served::Stored(path) => Ok(Task::Stored {
+            path,
+            layout,
+            settings,
+        }),
     }
 }
 
@@ -89,9 +100,11 @@ fn serve_task<'a>(alloc: Global, matches: &ArgMatches<'a>) -> Result<Task<'a>, F
     let limits = limits_given(matches)?;
     let beside = beside_given(matches);
     let settings = settings_given(matches)?;
+    let layout = layout_given(matches)?;
     let served = served_given(alloc, matches)?;
     Ok(Task::Server {
         served,
+        layout,
         address,
         connections,
         limits,
@@ -105,8 +118,13 @@ fn order_task<'a>(alloc: Global, word: &str, matches: &ArgMatches<'a>) -> Result
     ensures refused { IfErr result IsOfWords }
 {
     let place = place_given(matches)?;
+    let layout = layout_given(matches)?;
     let order = read_order(alloc, word, matches)?;
-    Ok(Task::Order { place, order })
+    Ok(Task::Order {
+        place,
+        layout,
+        order,
+    })
 }
 
 /// An order with a token, which is on the command line or is read elsewhere.
@@ -118,9 +136,11 @@ fn token_task<'a>(alloc: Global, word: &str, matches: &ArgMatches<'a>) -> Result
         return order_task(alloc, word, matches);
     };
     let place = place_given(matches)?;
+    let layout = layout_given(matches)?;
     let order = read_token_order(alloc, word, matches)?;
     Ok(Task::TokenOrder {
         place,
+        layout,
         source,
         order,
     })

@@ -6,6 +6,7 @@ ghost use Rattle.registry_orders.specs.Reading.{IsToldOfWords};
 
 use crate::cause::Cause;
 use crate::failure::Failure;
+use crate::layout::layout_given;
 use crate::place::place_given;
 use crate::settings::settings_given;
 use clap::{ArgMatches, Error};
@@ -19,14 +20,16 @@ pub enum Told<'a> {
     Line(Error),
 }
 
-/// Which options a subcommand wants that got others. Where both the place and the token of an order are a
-/// mistake, the place is told. Of what is served the scheme by which clients log in is told first. A
-/// subcommand that is neither has one place, which `clap` wants.
+/// Which options a subcommand wants that got others. Of an order its place is told first, then the layout of
+/// a new registry, and then its token; of what is served the scheme by which clients log in, and then that
+/// layout. A subcommand that is neither has one place, which `clap` wants.
 fn wanted(word: &str, matches: &ArgMatches) -> Option<Cause> {
     match word {
         "stdio" | "serve" if settings_given(matches).is_err() => Some(Cause::LoginOptions),
+        "stdio" | "serve" if layout_given(matches).is_err() => Some(Cause::LayoutOptions),
         "stdio" | "serve" => Some(Cause::RegistryOptions),
         _ if place_given(matches).is_err() => Some(Cause::PlaceOptions),
+        _ if layout_given(matches).is_err() => Some(Cause::LayoutOptions),
         "grant" | "revoke" | "grants" => Some(Cause::TokenOptions),
         _ => None,
     }

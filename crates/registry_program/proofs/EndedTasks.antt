@@ -1,6 +1,7 @@
 -- What a task comes to is what the words come to that spell it.
 use Rattle.std.proofs.Common.{◌≢◌, ◌⊎◌, ℕ, List, inl, inr}
 use Rattle.oci_types.specs.Text.{Text}
+use Rattle.registry_orders.specs.declared.layout.Layout.{Layout}
 use Rattle.registry_orders.specs.declared.tasks.Task.{Task}
 use Rattle.registry_orders.specs.declared.tasks.Task.TheVariants as task
 use Rattle.registry_orders.specs.declared.orders.TokenOrder.{TokenOrder}
@@ -28,8 +29,8 @@ EndsTokenOrder {K} a place source order status e errors =
     ((status ≢ 2) × RunsTokenOrder a place source order status e errors) ⊎ LacksTokenOf a source status e errors
 
 -- an order whose token is read elsewhere
-pub order_spares : {K : Type 0} (a : Acts K) (place : Place) (source : TokenSource) (order : TokenOrder) (status : ℕ) (e : Streams) (errors : Output)
-    → EndsTokenOrder a place source order status e errors → IsSilent (output_of e) → IsSparedBy (task.TokenOrder place source order) e
-order_spares a place Input order status e errors ends silent = inr (tt, silent)
-order_spares a place (File file) order status e errors (inl runs) silent = inl (record { left = runs.1.0; held = silent })
-order_spares a place (File file) order status e errors (inr lacks) silent = inl (record { left = lacks.1; held = silent })
+pub order_spares : {K : Type 0} (a : Acts K) (place : Place) (layout : Layout) (source : TokenSource) (order : TokenOrder) (status : ℕ) (e : Streams) (errors : Output)
+    → EndsTokenOrder a place source order status e errors → IsSilent (output_of e) → IsSparedBy (task.TokenOrder place layout source order) e
+order_spares a place layout Input order status e errors ends silent = inr (tt, silent)
+order_spares a place layout (File file) order status e errors (inl runs) silent = inl (record { left = runs.1.0; held = silent })
+order_spares a place layout (File file) order status e errors (inr lacks) silent = inl (record { left = lacks.1; held = silent })

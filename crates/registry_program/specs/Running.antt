@@ -53,13 +53,13 @@ RunsServed {K} b settings limits (Stored path) status o = RunsServer b settings 
 abbrev pub RunsTask : {K : Type 0} → Acts K → Task → ℕ → Streams → Output → Type 0
 RunsTask {K} a (task.Memory setup settings) status e errors =
     DoesNothing a × RunsMemory settings setup status e errors
-RunsTask {K} a (task.Stored path settings) status e errors =
+RunsTask {K} a (task.Stored path layout settings) status e errors =
     SendsNone a × RunsStored a.openings settings path.now status e errors
-RunsTask {K} a (task.Server served address connections limits beside settings) status e errors =
+RunsTask {K} a (task.Server served layout address connections limits beside settings) status e errors =
     SendsNone a × (e.left' ≡ e.left) × RunsServed a.openings settings limits served status (output_of e)
-RunsTask {K} a (task.Order place order) status e errors =
+RunsTask {K} a (task.Order place layout order) status e errors =
     (e.left' ≡ e.left) × RunsAt a place order status (output_of e) errors
-RunsTask {K} a (task.TokenOrder place source order) status e errors =
+RunsTask {K} a (task.TokenOrder place layout source order) status e errors =
     RunsTokenOrder a place source order status e errors
 RunsTask {K} a (task.Check path) status e errors =
     SendsNone a × (e.left' ≡ e.left) × RunsCheck a.openings path.now status (output_of e) errors
@@ -77,7 +77,8 @@ IsNotRead words status e errors = ((f : Failure) × IsOfWords f × GivesUp f sta
 
 -- the task wants a token, and there is none
 abbrev pub LacksToken : {K : Type 0} → Acts K → Task → ℕ → Streams → Output → Type 0
-LacksToken {K} a (task.TokenOrder place source order) status e errors = LacksTokenOf a source status e errors
+LacksToken {K} a (task.TokenOrder place layout source order) status e errors =
+    LacksTokenOf a source status e errors
 LacksToken {K} a _ status e errors = ⊥
 
 -- a task is done, and then the status is not 2; or it wants a token, and there is none
@@ -95,7 +96,7 @@ RunsWords {K} a words status e errors =
 
 -- the words take a line of standard input for a token
 abbrev pub IsByInput : Task → Type 0
-IsByInput (task.TokenOrder place Input order) = ⊤
+IsByInput (task.TokenOrder place layout Input order) = ⊤
 IsByInput _ = ⊥
 
 -- nothing was read or written, but for the line that the task takes

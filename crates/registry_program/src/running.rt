@@ -17,7 +17,7 @@ use registry_orders::failure::say;
 use registry_orders::line::read_words;
 use registry_orders::options::Setup;
 use registry_orders::unread::Told;
-use registry_orders::{Failure, Served, Task};
+use registry_orders::{Failure, Layout, Served, Task};
 use registry_tasks::{
     Messenger, run_check, run_migration, run_order_at, run_stored, run_token_order, send_stop,
     serve_memory, tell,
@@ -25,12 +25,13 @@ use registry_tasks::{
 use std::convert::AsStr;
 use std::io::{Read, Write};
 
-/// Opens the registry at a path, binds the address and the socket for orders, says what is served, and
-/// serves so many connections. The socket for orders is taken away at the end.
+/// Opens the registry at a path, or makes one with this layout, binds the address and the socket for orders,
+/// says what is served, and serves so many connections. The socket for orders is taken away at the end.
 fn run_server<'a, K: Keeper, O: Opener<K>, W: Write, E: Write>(
     rt: &HostRuntime,
     opener: &mut O,
     path: &'a str,
+    layout: Layout,
     serving: Serving<'a>,
     out: &mut W,
     err: &mut E,
@@ -41,7 +42,7 @@ fn run_server<'a, K: Keeper, O: Opener<K>, W: Write, E: Write>(
     ensures failed { 0 < result → 3 ≤ result }
     ensures status { result ≤ 4 }
 {
-    match serve(rt, opener, path, serving, out, err) {
+    match serve(rt, opener, path, layout, serving, out, err) {
         (Ok(()), _) => 0,
         (Err(failure), Some(none)) => say_at(err, failure, none.place, none.cause),
         (Err(failure), None) => say_at(err, failure, path, opener.cause(path, failure)),
@@ -72,6 +73,7 @@ fn run_server_over<'a, K: Keeper, O: Opener<K>, W: Write, E: Write>(
     rt: &HostRuntime,
     opener: &mut O,
     served: Served<'a>,
+    layout: Layout,
     serving: Serving<'a>,
     out: &mut W,
     err: &mut E,
@@ -86,7 +88,7 @@ fn run_server_over<'a, K: Keeper, O: Opener<K>, W: Write, E: Write>(
 {
     match served {
         Served::Memory(setup) => run_memory_server(rt, &setup, serving, out, err),
-        Served::Stored(path) => run_server(rt, opener, path, serving, out, err),
+        Served::Stored(path) => run_server(rt, opener, path, layout, serving, out, err),
     }
 }
 
@@ -117,11 +119,14 @@ fn run_task<K: Keeper, O: Opener<K>, M: Messenger, V: Watch, R: Read, W: Write, 
     let alloc = rt.alloc();
     match task {
         Task::Memory { setup, settings } => serve_memory(alloc, settings, &setup, reader, out, err),
-        Task::Stored { path, settings } => {
-            run_stored(alloc, opener, path, settings, reader, out, err)
-        }
+        Task::Stored {
+            path,
+            layout,
+            settings,
+        } => run_stored(alloc, opener, path, layout, settings, reader, out, err),
         Task::Server {
             served,
+            layout,
             address,
             connections,
             limits,
@@ -135,17 +140,20 @@ fn run_task<K: Keeper, O: Opener<K>, M: Messenger, V: Watch, R: Read, W: Write, 
                 beside,
                 settings,
             };
-            run_server_over(rt, opener, served, serving, out, err)
+            run_server_over(rt, opener, served, layout, serving, out, err)
         }
-        Task::Order { place, order } => run_order_at(
-            alloc, opener, messenger, place, &order, out, err,
-        ),
+        Task::Order {
+            place,
+            layout,
+            order,
+        } => run_order_at(alloc, opener, messenger, place, layout, &order, out, err),
         Task::TokenOrder {
             place,
+            layout,
             source,
             order,
         } => run_token_order(
-            rt, alloc, opener, messenger, place, source, order, reader, out, err,
+            rt, alloc, opener, messenger, place, layout, source, order, reader, out, err,
         ),
         Task::Check { path } => run_check(alloc, opener, watch, path, out, err),
         Task::Migration { path } => run_migration::<K, O, E>(opener, path, err),

@@ -12,7 +12,7 @@ use registry_holding::Holding;
 use registry_loop::{Crowd, Doors, Gathering};
 use registry_model::{Keeper, LARGEST_BLOB, Settings};
 use registry_opening::{Ended, Opener, Work};
-use registry_orders::{Beside, Failure, Limits};
+use registry_orders::{Beside, Failure, Layout, Limits};
 use registry_service::Service;
 use registry_tasks::listening::{Listeners, NotBound, introduction, listen};
 use registry_tasks::order_socket::stop_orders;
@@ -245,9 +245,11 @@ impl<'t, 'r, 'a, 'g, 'b, 'o, K: Keeper, G: Gathering, W: Write> Work<K>
     }
 }
 
-/// Serves those who gather over the registry at the path, which is opened again where its storage fails.
+/// Serves those who gather over the registry at the path, which is made with this layout where none is, and
+/// opened again where its storage fails.
 fn serve_together<'a, K: Keeper, O: Opener<K>, G: Gathering, W: Write>(
     opener: &mut O,
+    layout: Layout,
     task: &ServeTask<'_, 'a>,
     gathering: &mut G,
     binding: &mut Binding<'a>,
@@ -270,7 +272,7 @@ fn serve_together<'a, K: Keeper, O: Opener<K>, G: Gathering, W: Write>(
         greeted: false,
     };
     for _ in 0..u64::MAX {
-        match opener.with_open(task.path, &mut server) {
+        match opener.with_open(task.path, layout, &mut server) {
             Ok(Stop::Over) => return Ok(()),
             Ok(Stop::Spent) => {}
             Ok(Stop::Failed(failure)) => return Err(failure),
@@ -307,13 +309,14 @@ pub(crate) fn close_orders(rt: &HostRuntime, serving: Serving, listened: bool) {
     }
 }
 
-/// Opens the registry at a path, binds the address and the socket for orders, says what is served, and
-/// serves so many connections. The socket for orders is taken away at the end. Where nobody can listen, the
-/// place is given at which it is so.
+/// Opens the registry at a path, or makes one with this layout, binds the address and the socket for orders,
+/// says what is served, and serves so many connections. The socket for orders is taken away at the end. Where
+/// nobody can listen, the place is given at which it is so.
 pub fn serve<'a, K: Keeper, O: Opener<K>, W: Write, E: Write>(
     rt: &HostRuntime,
     opener: &mut O,
     path: &'a str,
+    layout: Layout,
     serving: Serving<'a>,
     out: &mut W,
     err: &mut E,
@@ -332,7 +335,7 @@ pub fn serve<'a, K: Keeper, O: Opener<K>, W: Write, E: Write>(
         listens: false,
     };
     let task = ServeTask { rt, path, serving };
-    let served = serve_together(opener, &task, &mut crowd, &mut binding, out);
+    let served = serve_together(opener, layout, &task, &mut crowd, &mut binding, out);
     close_orders(rt, serving, binding.listens);
     (served, binding.not_bound)
 }

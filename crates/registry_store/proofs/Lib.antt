@@ -12,3 +12,4 @@ pub mod KnownCalls
 pub mod RowWrites
 pub mod PackCalls
 pub mod NewPack
+pub mod SideCalls

@@ -6,6 +6,7 @@ mod counted_blobs;
 mod counted_repos;
 mod counted_sessions;
 mod counted_writes;
+mod either_reclaim;
 mod fault_noting;
 mod following;
 mod foretelling;

@@ -10,7 +10,7 @@ use oci_types::Fault;
 use registry_checking::{Watch, Wrong, look, write_wrongs};
 use registry_model::Keeper;
 use registry_opening::{Ended, Opener, Work};
-use registry_orders::Failure;
+use registry_orders::{Failure, Layout};
 use std::alloc::Global;
 use std::io::Write;
 
@@ -109,7 +109,7 @@ pub fn run_check<K: Keeper, O: Opener<K>, V: Watch, W: Write, E: Write>(
     ensures status { result ≤ 4 }
 {
     let mut work = CheckWork { alloc, watch, out };
-    match opener.with_open(path, &mut work) {
+    match opener.with_open(path, Layout::Tables, &mut work) {
         Ok(done) => end_at(opener, path, done, err),
         Err(failure) => fail_at(opener, path, failure, err),
     }

@@ -14,7 +14,7 @@ use order_carrying::{Ended as Carried, carry_out};
 use registry_model::{Keeper, Settings};
 use registry_opening::{Ended, Opener, Work};
 use registry_orders::cause::say_at;
-use registry_orders::{Failure, Order, Place};
+use registry_orders::{Failure, Layout, Order, Place};
 use registry_service::Service;
 use std::alloc::Global;
 use std::io::{Read, Write};
@@ -96,11 +96,12 @@ impl<'a, 'o, K: Keeper, W: Write> Work<K> for OrderWork<'a, 'o, W> {
     }
 }
 
-/// Opens the registry at a path, and carries an order out over it.
+/// Opens the registry at a path, or makes one with this layout, and carries an order out over it.
 fn run_order<K: Keeper, O: Opener<K>, W: Write, E: Write>(
     alloc: Global,
     opener: &mut O,
     path: &str,
+    layout: Layout,
     order: &Order,
     out: &mut W,
     err: &mut E,
@@ -114,18 +115,20 @@ fn run_order<K: Keeper, O: Opener<K>, W: Write, E: Write>(
     ensures read { result ≢ 2 }
 {
     let mut work = OrderWork { alloc, order, out };
-    match opener.with_open(path, &mut work) {
+    match opener.with_open(path, layout, &mut work) {
         Ok(done) => end_at(opener, path, done, err),
         Err(failure) => fail_at(opener, path, failure, err),
     }
 }
 
-/// Carries an order out over the registry that is opened for it, or sends it to the server that holds it.
+/// Carries an order out over the registry that is opened for it, or made with this layout, or sends it to the
+/// server that holds it.
 pub fn run_order_at<K: Keeper, O: Opener<K>, M: Messenger, W: Write, E: Write>(
     alloc: Global,
     opener: &mut O,
     messenger: &mut M,
     place: Place,
+    layout: Layout,
     order: &Order,
     out: &mut W,
     err: &mut E,
@@ -140,7 +143,7 @@ pub fn run_order_at<K: Keeper, O: Opener<K>, M: Messenger, W: Write, E: Write>(
     ensures read { result ≢ 2 }
 {
     match place {
-        Place::Database(path) => run_order(alloc, opener, path, order, out, err),
+        Place::Database(path) => run_order(alloc, opener, path, layout, order, out, err),
         Place::Server(path) => send_order(alloc, messenger, path, order, out, err),
     }
 }
@@ -180,11 +183,13 @@ impl<'r, 'o, K: Keeper, R: Read, W: Write> Work<K> for ConnectionWork<'r, 'o, R,
     }
 }
 
-/// Opens the registry at a path, and serves one connection over it with these settings.
+/// Opens the registry at a path, or makes one with this layout, and serves one connection over it with these
+/// settings.
 pub fn run_stored<K: Keeper, O: Opener<K>, R: Read, W: Write, E: Write>(
     alloc: Global,
     opener: &mut O,
     path: &str,
+    layout: Layout,
     settings: Settings,
     reader: &mut R,
     out: &mut W,
@@ -204,7 +209,7 @@ pub fn run_stored<K: Keeper, O: Opener<K>, R: Read, W: Write, E: Write>(
         reader,
         out,
     };
-    match opener.with_open(path, &mut work) {
+    match opener.with_open(path, layout, &mut work) {
         Ok(done) => end_at(opener, path, done, err),
         Err(failure) => fail_at(opener, path, failure, err),
     }

@@ -13,7 +13,7 @@ use oci_types::Token;
 use registry_model::Keeper;
 use registry_opening::Opener;
 use registry_orders::cause::say_at;
-use registry_orders::{Cause, Failure, Place, TokenOrder, TokenSource, read_token};
+use registry_orders::{Cause, Failure, Layout, Place, TokenOrder, TokenSource, read_token};
 use std::alloc::Global;
 use std::fs;
 use std::io::{ErrorKind, Read, Write};
@@ -101,6 +101,7 @@ pub fn run_token_order<K: Keeper, O: Opener<K>, M: Messenger, R: Read, W: Write,
     opener: &mut O,
     messenger: &mut M,
     place: Place,
+    layout: Layout,
     source: TokenSource,
     order: TokenOrder,
     reader: &mut R,
@@ -126,6 +127,7 @@ pub fn run_token_order<K: Keeper, O: Opener<K>, M: Messenger, R: Read, W: Write,
             opener,
             messenger,
             place,
+            layout,
             &order.with(token),
             out,
             err,

@@ -13,6 +13,7 @@ ghost use Rattle.store_pack.specs.Contents.{AreApart, IsPlaced};
 ghost use Rattle.store_pack.specs.Opening.{AreSpared, AreThere};
 ghost use Rattle.store_pack.specs.Pack.{PackSays};
 ghost use Rattle.store_contents.specs.Places.{HoldsPlaces, place_rows, runs_of};
+ghost use Rattle.store_statements.specs.Clauses.{Lasts};
 
 use crate::pack_row::read_pack_row;
 use crate::reading::extents_in_use;
@@ -75,6 +76,7 @@ pub fn open_pack<S: Alter, D: Disk + Drop>(
     ensures apart { IfOk result AreApart }
     ensures kept { IfOk result (λ pack. KeepsAll D.Disk disk (file_of pack)) }
     ensures usable { IfOk result (λ pack. IsTrue (D.Disk.is_usable (file_of pack))) }
+    ensures survives { Lasts S.Store conn.old conn.new }
 {
     let row = match read_pack_row(conn) {
         Ok(Some(row)) => row,

@@ -48,6 +48,7 @@ impl<D: Disk + Drop> PackContents<D> {
     ghost use Rattle.registry_pack.specs.Heads.{AreLasting, Says};
     ghost use Rattle.registry_pack.specs.Pack.{age_of, head_of, mark_of};
     ghost use Rattle.store_contents.specs.Places.{HoldsPlaces, place_rows, runs_of};
+    ghost use Rattle.store_statements.specs.Clauses.{Lasts};
     ghost use Rattle.store_pack.specs.Pack.{PackSays};
 
     /// A new pack in a file that is new and empty, of age 0.
@@ -85,6 +86,7 @@ impl<D: Disk + Drop> PackContents<D> {
             → AllByRecursion (IsSpared it.pack) (runs_of (place_rows (state S.Store conn.old).now))) }
         ensures file { IfOk result (λ it. D.Disk.seen (file_of it.pack) ≡ D.Disk.seen disk) }
         ensures usable { IfOk result (λ it. IsTrue (D.Disk.is_usable (file_of it.pack))) }
+        ensures survives { Lasts S.Store conn.old conn.new }
     {
         let mut pack = open_pack(alloc, conn, disk)?;
         match pack.sync() {

@@ -20,6 +20,12 @@ returns-in_err-settings c = record {
   refused = words_failed c.from_residual-in_err-settings.result _ c.in_err-settings.ensures.refused c.from_residual-in_err-settings.ensures.1;
 }
 
+pub returns-in_err-layout : goal.returns-in_err-layout
+returns-in_err-layout c = record {
+  read = IfOk-from_err c.from_residual-in_err-layout.result _ c.from_residual-in_err-layout.ensures.0;
+  refused = words_failed c.from_residual-in_err-layout.result _ c.in_err-layout.ensures.refused c.from_residual-in_err-layout.ensures.1;
+}
+
 pub returns-in_err-served : goal.returns-in_err-served
 returns-in_err-served c = record {
   read = IfOk-from_err c.from_residual-in_err-served.result _ c.from_residual-in_err-served.ensures.0;

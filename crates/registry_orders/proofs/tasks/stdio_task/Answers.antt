@@ -8,6 +8,12 @@ returns-in_err-settings c = record {
   refused = words_failed c.from_residual.result _ c.in_err-settings.ensures.refused c.from_residual.ensures.1;
 }
 
+pub returns-in_err-layout : goal.returns-in_err-layout
+returns-in_err-layout c = record {
+  read = IfOk-from_err c.from_residual-in_err-layout.result _ c.from_residual-in_err-layout.ensures.0;
+  refused = words_failed c.from_residual-in_err-layout.result _ c.in_err-layout.ensures.refused c.from_residual-in_err-layout.ensures.1;
+}
+
 pub returns-in_err-setup : goal.returns-in_err-setup
 returns-in_err-setup c = record {
   read = IfOk-from_err c.from_residual-in_err-setup.result _ c.from_residual-in_err-setup.ensures.0;

@@ -45,7 +45,7 @@ returns-in-TokenOrder g c = record {
       let found = c.in-TokenOrder in
       rw found.is (order_spares (acts (between g.K.Keeper.is_honest g.K.Keeper.kept g.O.Opener.opens (g.O.Opener.had c.args.opener.now)
       (g.O.Opener.had c.run_token_order.new.opener)) (g.M.Messenger.had c.args.messenger.now) (g.M.Messenger.had c.run_token_order.new.messenger))
-      found.place found.source found.order _ _ _ c.run_token_order.ensures.runs (c.run_token_order.ensures.silent more (omega arith)));
+      found.place found.layout found.source found.order _ _ _ c.run_token_order.ensures.runs (c.run_token_order.ensures.silent more (omega arith)));
   status = c.run_token_order.ensures.status;
 }
 
