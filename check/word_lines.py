@@ -16,7 +16,7 @@ MARKS = {
 # What is read when an example is played: the port of a server, and the marks, of which one is a choice of texts.
 LATE = re.compile(r'\{(%s|server|[^{}"\s]+\|[^{}"\s]+)\}' % "|".join(map(re.escape, MARKS)))
 
-STEPS = "$ serve ended freeze thaw call shut told cut sql write read mode socket".split()
+STEPS = "$ serve ended freeze thaw call shut told cut sql write read mode length socket".split()
 # Lines behind a step, and what of it they add to; the others are `?` and `with`.
 TEXTS = {"<": "given", "<<": "left", ">": "out", "2>": "err", "asked": "asked", "answers": "answers"}
 

@@ -73,6 +73,9 @@ class Stage:
         there = os.path.lexists(self.at(file))
         return Outcome(b"%o\n" % stat.S_IMODE(os.lstat(self.at(file)).st_mode) if there else b"none\n")
 
+    def length(self, file, _):
+        return Outcome(b"%d\n" % os.path.getsize(self.at(file)))
+
     def socket(self, words, _):
         kind, file = words.split()
         listener = socket.socket(socket.AF_UNIX)

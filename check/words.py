@@ -39,6 +39,7 @@ behind the last. A FILE is one of the folder.
                                 they select is a line, with `|` between its columns
     write FILE, read FILE       a file is made, or read
     mode FILE                   the mode of a file, as 600, or `none` where nothing is there
+    length FILE                 how many bytes a file has
     socket living FILE          a socket at which somebody listens, or `socket dead FILE`: one whose maker has gone
 
 Behind it stands what it is given, and what must come of it. Where there is no line for something, nothing may come.

@@ -15,7 +15,7 @@ use Rattle.store_schema.specs.Commands.{deletes, selects, selects_first, selects
 use Rattle.store_schema.specs.Layout.{equals, Means}
 use Rattle.store_schema.specs.Ordered.{above}
 use Rattle.store_schema.specs.PlaceTables.{contents_table, pack_table, places_table}
-use Rattle.store_contents.specs.PlaceTexts.{KnowsContentTexts, KnowsPackTexts, KnowsPlaceTexts, by_first, by_id, content_add, content_add_terms, content_find, content_list, content_remove, pack_put, pack_put_terms, pack_read, pack_set_age, pack_set_terms, place_add, place_add_terms, place_list, place_list_all, place_remove}
+use Rattle.store_contents.specs.PlaceTexts.{KnowsContentTexts, KnowsPackTexts, KnowsPlaceTexts, by_first, by_id, content_add, content_add_terms, content_find, content_hash, content_list, content_remove, pack_put, pack_put_terms, pack_read, pack_set_age, pack_set_terms, place_add, place_add_terms, place_list, place_list_all, place_remove}
 use Rattle.pack_opening.specs.Making.{version_add as version_three}
 use Rattle.store_statements.specs.BlobTexts.{blob_find, blob_sizes, blob_digests, blob_contents, blob_add, blob_take, blob_take_all, KnowsBlobTexts}
 use Rattle.store_statements.specs.GrantTexts.{grant_find, grant_known, grant_list, grant_list_all, grant_add, grant_set_level, grant_take, grant_take_all, grant_take_token, KnowsGrantTexts}
@@ -149,6 +149,7 @@ content_texts = record {
   remove = means_by pack_schema content_remove (deletes contents_stand.at pack_schema contents_table by_id) refl;
   find = means_by pack_schema content_find (selects pack_schema contents_table by_id (col 1 3 ∷ []) (codes "size" ∷ [])) refl;
   list = means_by pack_schema content_list (selects pack_schema contents_table [] (col 1 0 ∷ []) (codes "id" ∷ [])) refl;
+  hash = means_by pack_schema content_hash (selects pack_schema contents_table by_id (col 1 2 ∷ []) (codes "sha256" ∷ [])) refl;
 }
 
 pub place_texts : KnowsPlaceTexts pack_schema places_stand

@@ -90,6 +90,7 @@ impl<D: Disk> Pack<D> {
         ensures cut { OnOk result
             (end_of self.new < end_of self.old → length (D.Disk.seen (file_of self.new)) ≡ end_of self.new) }
         ensures below { KeepsBelow D.Disk (end_of self.new) (file_of self.old) (file_of self.new) }
+        ensures heads { KeepsBelow D.Disk 8192 (file_of self.old) (file_of self.new) }
         ensures writable { (p : ℕ) → IsWritable self.new p ↔ IsWritable self.old p }
         ensures retired { KeepsRetired self.old self.new }
         ensures head { head_of self.new ≡ head_of self.old }

@@ -1,4 +1,4 @@
--- A session that ends unread, where bytes are in the tables.
+-- A session that ends unread.
 use Rattle.std.proofs.Common.{◌≡◌, ◌∙◌, Bool, true, false, Ok, Err, Result, OnOk, IfOk, ap, sym, subst}
 use Rattle.std.specs.Prelude.{⊤}
 use Rattle.sqlite_trees.specs.declared.store.Store.{Ghosts}
@@ -7,12 +7,13 @@ use Rattle.sqlite.specs.State.{HasCleanDisk}
 use Rattle.sqlite.specs.Held.{Held, state}
 use Rattle.oci_types.specs.declared.fault.Fault.{Fault}
 use Rattle.registry_model.specs.World.{World}
-use Rattle.store_contents.specs.Layouts.{Layout, InPack, InTables}
+use Rattle.store_contents.specs.Layouts.{Layout}
 use Rattle.store_bytes.specs.declared.contents.Contents as contents
 use Rattle.store_bytes.specs.Keeping.{AreOfKind}
+use Rattle.store_bytes.proofs.OfKind.{of_own_kind}
 use Rattle.store_statements.specs.Between as between
 use Rattle.store_statements.specs.Between.{Relates}
-use Rattle.store_statements.specs.Held.{IsSettled, SettlesOn, held, tables_in}
+use Rattle.store_statements.specs.Held.{IsSettled, SettlesOn, held, tables_in, world_in}
 use Rattle.store_statements.specs.PlaceChanges.{KeepsPlaces}
 use Rattle.store_statements.specs.World.{world_of}
 use Rattle.store_writes.specs.Whole as whole
@@ -22,21 +23,20 @@ use Rattle.registry_store.specs.KeptWrites.{LeavesWhereSo}
 use Rattle.registry_store.specs.Outcomes.{RowsLeaveWhereSo}
 use Rattle.registry_store.specs.Usages.{IsKnown, StaysKnown}
 use Rattle.registry_store.specs.declared.known_usages.KnownUsages.{KnownUsages}
-use Rattle.registry_store.proofs.RowCalls.{next_order, remembered, rows_know, rows_want, same_order}
+use Rattle.registry_store.proofs.RowCalls.{next_order, remembered, rows_know, rows_want, same_order, settled_left}
 
-tables_alone : (l m : Layout) → l ≡ InTables → AreOfKind l m → m ≡ InTables
-tables_alone l m is kind = by m (subst (λ (x : Layout). AreOfKind x m) is kind)
-  where
-    by : (n : Layout) → AreOfKind InTables n → n ≡ InTables
-    by InTables k = λ i. InTables
-    by (InPack file) k = absurd k
+-- what is said of rows is said of every layout of the kind
+module _ {S C : Type 0} (g : Ghosts S) (c : contents.Ghosts C) (kept : C) (old new : Held S) (r : Result Bool Fault) where
+  abbrev pub OfKind : (Layout → Type 0) → Type 0
+  OfKind P = (l : Layout) → AreOfKind (c.layout kept) l → P l
 
-module _ {S C : Type 0} (g : Ghosts S) (c : contents.Ghosts C) (kept : C) (in_tables : c.layout kept ≡ InTables) (old new : Held S) (r : Result Bool Fault) where
-  pub known_made : (so : World → Bool) (f : World → World) → (HasCleanDisk (state g new) → IsSettled InTables (state g old) → IfOk r (λ done. whole.DoneWhereSo InTables done (state g old) (state g new) so f))
-      → Relates g InTables old new r KeepsPlaces → IsClean g c (new, kept) → IsInOrder g c (old, kept) → IfOk r (λ done. DoneWhereSo g c (old, kept) (new, kept) done so f)
-  known_made so f makes places clean is =
-      by r (subst (λ (l : Layout). HasCleanDisk (state g new) → IsSettled l (state g old) → IfOk r (λ done. whole.DoneWhereSo l done (state g old) (state g new) so f)) (sym in_tables) makes clean.0 is.settled)
-      (subst (λ (l : Layout). Relates g l old new r KeepsPlaces) (sym in_tables) places clean.0 is.settled)
+  own : (P : Layout → Type 0) → OfKind P → P (c.layout kept)
+  own P all = all (c.layout kept) (of_own_kind (c.layout kept))
+
+  pub known_made : (so : World → Bool) (f : World → World)
+      → OfKind (λ l. HasCleanDisk (state g new) → IsSettled l (state g old) → IfOk r (λ done. whole.DoneWhereSo l done (state g old) (state g new) so f))
+      → OfKind (λ l. Relates g l old new r KeepsPlaces) → IsClean g c (new, kept) → IsInOrder g c (old, kept) → IfOk r (λ done. DoneWhereSo g c (old, kept) (new, kept) done so f)
+  known_made so f makes places clean is = by r (makes (c.layout kept) (of_own_kind (c.layout kept)) clean.0 is.settled) (places (c.layout kept) (of_own_kind (c.layout kept)) clean.0 is.settled)
     where
       by : (x : Result Bool Fault) → IfOk x (λ done. whole.DoneWhereSo (c.layout kept) done (state g old) (state g new) so f) → OnOk x (KeepsPlaces (held (c.layout kept) (state g old)) (held (c.layout kept) (state g new)))
           → IfOk x (λ done. DoneWhereSo g c (old, kept) (new, kept) done so f)
@@ -44,17 +44,18 @@ module _ {S C : Type 0} (g : Ghosts S) (c : contents.Ghosts C) (kept : C) (in_ta
       by (Ok false) same keeps = (same_order g c kept old new is same.0 same.1, ap (λ (d : Database). world_of (tables_in (c.layout kept) d)) same.1)
       by (Err e) made keeps = tt
 
-  pub known_wanted : between.StaysOnMemory g InTables old new r → StaysOnMemory g c (old, kept) (new, kept) r
-  known_wanted stays = rows_want g c kept old new r (λ _. ⊤) (λ _. subst (λ (l : Layout). between.StaysOnMemory g l old new r) (sym in_tables) stays) (λ _. tt)
+  pub known_wanted : OfKind (λ l. between.StaysOnMemory g l old new r) → StaysOnMemory g c (old, kept) (new, kept) r
+  known_wanted stays = rows_want g c kept old new r (λ _. ⊤) (λ _. own (λ l. between.StaysOnMemory g l old new r) stays) (λ _. tt)
 
-  pub known_left : (so : World → Bool) (f : World → World) → (HasCleanDisk (state g new) → IsSettled InTables (state g old) → RowsLeaveWhereSo InTables (state g old) (state g new) r so f)
+  pub known_left : (so : World → Bool) (f : World → World)
+      → OfKind (λ l. HasCleanDisk (state g new) → IsSettled l (state g old) → RowsLeaveWhereSo l (state g old) (state g new) r so f)
       → IsClean g c (new, kept) → IsInOrder g c (old, kept) → LeavesWhereSo g c (old, kept) (new, kept) r so f
   known_left so f crash clean is m may =
-      let alone = tables_alone (c.layout kept) m in_tables (c.lasts kept m may (state g old).now (remembered g c c.remembers_spared (old, kept) is)).kind in
-      let w = world_at g c (old, kept) in
-      let rows = subst (λ (l : Layout). HasCleanDisk (state g new) → IsSettled l (state g old) → RowsLeaveWhereSo l (state g old) (state g new) r so f) (sym in_tables) crash clean.0 is.settled in
-      subst (λ (l : Layout). between.Outcomes (state g old).now (state g new) (λ s. IfOk r (λ done. whole.ToldWhereSo l done s w (f w))) (λ s. SettlesOn l s w) (λ s. (so w ≡ true) × SettlesOn l s (f w))) (in_tables ∙ sym alone) rows
+      let kind = (c.lasts kept m may (state g old).now (remembered g c c.remembers_spared (old, kept) is)).kind in
+      let left = settled_left g c c.lasts c.remembers_spared (old, kept) is m may in
+      let same : world_in m (state g old) ≡ world_at g c (old, kept) = ap world_of left.1 in
+      subst (λ (w : World). between.Outcomes (state g old).now (state g new) (λ s. IfOk r (λ done. whole.ToldWhereSo m done s w (f w))) (λ s. SettlesOn m s w) (λ s. (so w ≡ true) × SettlesOn m s (f w))) same
+      (crash m kind clean.0 left.0)
 
-  pub known_follows : (known knew : KnownUsages) → (IsKnown g InTables old known → StaysKnown g InTables old new knew r) → (IsClean g c (new, kept) → IsClean g c (old, kept)) → StaysKnowing g c (old, kept) (new, kept) r known knew
-  known_follows known knew follows early =
-      rows_know g c kept old new r known knew (λ _. ⊤) (λ k _. subst (λ (l : Layout). IsKnown g l old known → StaysKnown g l old new knew r) (sym in_tables) follows k) (λ _. tt) early
+  pub known_follows : (known knew : KnownUsages) → OfKind (λ l. IsKnown g l old known → StaysKnown g l old new knew r) → (IsClean g c (new, kept) → IsClean g c (old, kept)) → StaysKnowing g c (old, kept) (new, kept) r known knew
+  known_follows known knew follows early = rows_know g c kept old new r known knew (λ _. ⊤) (λ k _. own (λ l. IsKnown g l old known → StaysKnown g l old new knew r) follows k) (λ _. tt) early

@@ -13,3 +13,4 @@ pub mod RowWrites
 pub mod PackCalls
 pub mod NewPack
 pub mod SideCalls
+pub mod LastNumberKnown

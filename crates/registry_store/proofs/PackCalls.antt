@@ -1,6 +1,7 @@
 -- What nothing names is freed over a pack, and its space given back: of the connection and of where bytes are together.
-use Rattle.std.proofs.Common.{◌≡◌, ◌∙◌, ◌⊎◌, inl, inr, ℕ, ℤ, List, [], ◌∷◌, Bool, Ok, Err, Result, OnOk, filter, sym, ap, subst}
+use Rattle.std.proofs.Common.{◌≡◌, ◌∙◌, ◌⊎◌, inl, inr, ℕ, ℤ, List, [], ◌∷◌, Bool, Ok, Err, Result, OnOk, filter, refl, sym, ap, subst}
 use Rattle.std.specs.List.{AllByRecursion}
+use Rattle.sqlite_disk.specs.declared.Disk as disk
 use Rattle.sqlite_trees.specs.declared.store.Store.{Ghosts}
 use Rattle.sqlite_trees.proofs.ListLemmas.{all-filter}
 use Rattle.sqlite.specs.Effect.{Database}
@@ -12,11 +13,14 @@ use Rattle.oci_types.specs.declared.fault.Fault.{Fault}
 use Rattle.registry_model.specs.World.{World}
 use Rattle.store_schema.specs.Rows.{integer_at}
 use Rattle.store_contents.specs.Layouts.{InPack, Layout, packs_in, places_in}
-use Rattle.store_contents.specs.Places.{runs_of}
+use Rattle.registry_pack.specs.declared.pack.Pack.{Pack}
+use Rattle.registry_pack.specs.Pack.{file_of}
+use Rattle.store_contents.specs.Places.{place_rows, runs_of}
 use Rattle.store_bytes.specs.declared.contents.Contents as contents
 use Rattle.store_bytes.specs.Keeping.{AllPlaces, KeepsBytes}
 use Rattle.store_bytes.proofs.KeepingLemmas.{run_of, settled_too}
 use Rattle.store_pack.specs.Commits as commits
+use Rattle.store_pack.specs.Contents.{IsRemembered, IsSpared}
 use Rattle.store_statements.specs.Between.{Outcomes}
 use Rattle.store_statements.specs.Held.{IsSettled, SettlesOn, held, reopened, with_trees, world_in}
 use Rattle.store_statements.specs.Tables.{Tables}
@@ -82,11 +86,26 @@ module _ {S C : Type 0} {g : Ghosts S} {c : contents.Ghosts C} (old mid : Held S
       subst (λ (w : World). SettlesOn m (reopened (with_trees (state g old).now db)) w) (ap world_of there.1)
       (settled_outcome m (world_in m (state g old)) (state g old).now (state g mid) Told (crash there.0) db left)
 
+-- ---- the end of the file was cut off behind it
+
+pub bytes_then : (first next last : List ℕ) (db : Database) → KeepsBytes (InPack first) (InPack next) db → KeepsBytes (InPack next) (InPack last) db → KeepsBytes (InPack first) (InPack last) db
+bytes_then first next last db a b = record { kind = tt; contents = λ id. b.contents id ∙ a.contents id; holds = λ h. b.holds (a.holds h) }
+
+module _ {D : Type 0} {g : disk.Ghosts D} (was given cut : Pack D g) (rows : List Row) (named : AllByRecursion (IsSpared was) (runs_of rows)) (spared : AllByRecursion (IsSpared given) (runs_of rows))
+    (first : (db : Database) → AllPlaces (IsRemembered was) (InPack (g.seen (file_of was))) db → KeepsBytes (InPack (g.seen (file_of was))) (InPack (g.seen (file_of given))) db)
+    (next : (db : Database) → AllPlaces (IsRemembered given) (InPack (g.seen (file_of given))) db → KeepsBytes (InPack (g.seen (file_of given))) (InPack (g.seen (file_of cut))) db) where
+  pub bytes_cut : (db : Database) → place_rows db ≡ rows → KeepsBytes (InPack (g.seen (file_of was))) (InPack (g.seen (file_of cut))) db
+  bytes_cut db same =
+      let of_was = all_are (IsSpared was) (IsRemembered was) (λ run it. it.remembered) (runs_of rows) named in
+      let of_given = all_are (IsSpared given) (IsRemembered given) (λ run it. it.remembered) (runs_of rows) spared in
+      bytes_then (g.seen (file_of was)) (g.seen (file_of given)) (g.seen (file_of cut)) db (first db (subst (λ r. AllByRecursion (IsRemembered was) (runs_of r)) (sym same) of_was))
+      (next db (subst (λ r. AllByRecursion (IsRemembered given) (runs_of r)) (sym same) of_given))
+
 -- ---- behind the space
 
 module _ {S C : Type 0} {g : Ghosts S} {c : contents.Ghosts C} (mid new : Held S) (k0 k1 : C) (is : IsInOrder g c (mid, k0))
     (spared : AllByRecursion (c.spares k1) (runs_of (places_in (c.layout k0) (state g mid).now)))
-    (bytes : (db : Database) → AllPlaces (c.remembers k0) (c.layout k0) db → KeepsBytes (c.layout k0) (c.layout k1) db) where
+    (bytes : (db : Database) → places_in (c.layout k0) db ≡ places_in (c.layout k0) (state g mid).now → KeepsBytes (c.layout k0) (c.layout k1) db) where
   abbrev l0 : Layout
   l0 = c.layout k0
 
@@ -98,9 +117,7 @@ module _ {S C : Type 0} {g : Ghosts S} {c : contents.Ghosts C} (mid new : Held S
     places = ap (λ (t : Tables). t.places) same
 
     too : IsSettled l1 (state g new) × (held l1 (state g new) ≡ held l0 (state g new))
-    too =
-        settled_too l0 l1 (state g new)
-        (bytes (state g new).now (subst (λ rows. AllByRecursion (c.remembers k0) (runs_of rows)) (sym places) (remembered g c c.remembers_spared (mid, k0) is))) settles.0
+    too = settled_too l0 l1 (state g new) (bytes (state g new).now places) settles.0
 
     -- both are in order, with the same world
     pub given_order : c.names k1 (packs_in l1 (state g new).now) → IsInOrder g c (new, k1) × (world_at g c (new, k1) ≡ world_at g c (mid, k0))
@@ -122,7 +139,7 @@ module _ {S C : Type 0} {g : Ghosts S} {c : contents.Ghosts C} (mid new : Held S
       → (IsSettled m (state g mid) → Outcomes (state g mid).now (state g new) Told (λ s. SettlesOn m s (world_in m (state g mid))) (λ s. SettlesOn m s (world_in m (state g mid))))
       → (db : Trees) → (state g new).may_leave db → SettlesOn m (reopened (with_trees was db)) w
   given_left was schema w world m may Told crash db left =
-      let first = settled_too l0 l1 (state g mid) (bytes (state g mid).now (remembered g c c.remembers_spared (mid, k0) is)) is.settled in
+      let first = settled_too l0 l1 (state g mid) (bytes (state g mid).now refl) is.settled in
       let there = all_are (c.spares k1) (c.remembers k1) (c.remembers_spared k1) (runs_of (places_in l1 (state g mid).now)) (subst (λ (t : Tables). AllByRecursion (c.spares k1) (runs_of t.places)) (sym first.1) spared) in
       let next = settled_too l1 m (state g mid) (c.lasts k1 m may (state g mid).now there) first.0 in
       let again : with_trees (state g mid).now db ≡ with_trees was db = λ i. record { schema = schema i; trees = db } in

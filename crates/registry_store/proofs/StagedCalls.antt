@@ -227,12 +227,3 @@ pub all_storage : (made : Result ⊤ Fault) (put : Result Bool Fault) → MatchR
 all_storage (Ok v) put told off = refl
 all_storage (Err Memory) put told off = refl
 all_storage (Err Storage) put told off = sym (ap is_storage told) ∙ off
-
--- ---- nothing was asked of the connection
-
-pub untouched_left : {S C : Type 0} (g : Ghosts S) (c : contents.Ghosts C) → CrashLaw g → (conn : Held S) (k : C) → IsInOrder g c (conn, k) → (so : World → Bool) (f : World → World) → LeavesWhereSo g c (conn, k) (conn, k) (Ok false) so f
-untouched_left g c shut conn k is so f m may =
-    let left = settled_left g c c.lasts c.remembers_spared (conn, k) is m may in
-    let s = state g conn in
-    subst (λ (w : World). between.Outcomes s.now s (λ t. IsSettled m t × (world_in m t ≡ w)) (λ t. IsSettled m t × (world_in m t ≡ w)) (λ t. (so w ≡ true) × (IsSettled m t × (world_in m t ≡ f w)))) (ap world_of left.1)
-    (outcome_kept s s (λ t. IsSettled m t × (world_in m t ≡ world_in m s)) (λ t. (so (world_in m s) ≡ true) × (IsSettled m t × (world_in m t ≡ f (world_in m s)))) left.0 (kept_stayed g shut conn conn left.0 (left.0, refl)) (λ t again. again))

@@ -6,7 +6,8 @@ ghost use Rattle.sqlite.specs.Held.{state};
 ghost use Rattle.registry_model.specs.World.{has_repo};
 ghost use Rattle.registry_model.specs.Lookups.{append, last_number_at, open_session, session_at};
 ghost use Rattle.registry_model.specs.Closing.{session_matches, finish_as_is};
-ghost use Rattle.store_contents.specs.Layouts.{Layout, InTables};
+ghost use Rattle.store_contents.specs.Layouts.{Layout};
+ghost use Rattle.store_bytes.specs.Keeping.{AreOfKind};
 ghost use Rattle.store_places.specs.Source.{Suits, text_in};
 ghost use Rattle.store_statements.specs.Held.{IsSettled, SettlesOn, world_in};
 ghost use Rattle.store_statements.specs.Between.{CrashLeaves, MakesWorld, Relates, StaysOnMemory};
@@ -22,6 +23,7 @@ use crate::known_usages::KnownUsages;
 use oci_types::{Digest, Fault, RepoName};
 use sqlite::{Alter, Connection};
 use std::alloc::Global;
+use store_bytes::Contents;
 use store_places::Source;
 use store_reads::{Change, NO_CHANGE, known_end_change};
 
@@ -93,30 +95,36 @@ pub(crate) fn append<S: Alter>(
 
 /// Ends an open session whose bytes are known to match the digest, and they are a blob; a digest that is
 /// there keeps its bytes. Answers whether it did so; where it did not, nothing has changed.
-pub(crate) fn finish_known<S: Alter>(
+pub(crate) fn finish_known<S: Alter, C: Contents>(
     alloc: Global,
     conn: &mut Connection<S>,
     known: &mut KnownUsages,
+    contents: &C,
     repo: &RepoName,
     number: u64,
     digest: &Digest,
 ) -> Result<bool, Fault>
-    ensures made { HasCleanDisk (state S.Store conn.new) → IsSettled InTables (state S.Store conn.old)
+    ensures made { (l : Layout) → AreOfKind (C.Contents.layout contents.now) l
+        → HasCleanDisk (state S.Store conn.new) → IsSettled l (state S.Store conn.old)
         → IfOk result
-        (λ done. DoneWhereSo InTables done (state S.Store conn.old) (state S.Store conn.new)
+        (λ done. DoneWhereSo l done (state S.Store conn.old) (state S.Store conn.new)
         (λ w. session_matches w repo.now number digest.now)
         (λ w. finish_as_is w repo.now number digest.now)) }
-    ensures places { Relates S.Store InTables conn.old conn.new result KeepsPlaces }
-    ensures memory { StaysOnMemory S.Store InTables conn.old conn.new result }
-    ensures crash { HasCleanDisk (state S.Store conn.new) → IsSettled InTables (state S.Store conn.old)
-        → RowsLeaveWhereSo InTables (state S.Store conn.old) (state S.Store conn.new) result
+    ensures places { (l : Layout) → AreOfKind (C.Contents.layout contents.now) l
+        → Relates S.Store l conn.old conn.new result KeepsPlaces }
+    ensures memory { (l : Layout) → AreOfKind (C.Contents.layout contents.now) l
+        → StaysOnMemory S.Store l conn.old conn.new result }
+    ensures crash { (l : Layout) → AreOfKind (C.Contents.layout contents.now) l
+        → HasCleanDisk (state S.Store conn.new) → IsSettled l (state S.Store conn.old)
+        → RowsLeaveWhereSo l (state S.Store conn.old) (state S.Store conn.new) result
         (λ w. session_matches w repo.now number digest.now)
         (λ w. finish_as_is w repo.now number digest.now) }
     ensures survives { Lasts S.Store conn.old conn.new }
-    ensures known { IsKnown S.Store InTables conn.old known.old
-        → StaysKnown S.Store InTables conn.old conn.new known.new result }
+    ensures known { (l : Layout) → AreOfKind (C.Contents.layout contents.now) l
+        → IsKnown S.Store l conn.old known.old
+        → StaysKnown S.Store l conn.old conn.new known.new result }
 {
-    match store_writes::finish_known(alloc, conn, repo, number, digest) {
+    match store_writes::finish_known(alloc, conn, contents, repo, number, digest) {
         Ok(Some(end)) => {
             known.follow(repo, Some(known_end_change(end.size, end.came)));
             Ok(true)

@@ -1,4 +1,4 @@
-//! Upload sessions that end unread, where bytes are in the tables.
+//! Upload sessions that end unread.
 ghost use Rattle.registry_model.specs.Closing.{session_matches, finish_as_is};
 ghost use Rattle.std.specs.Prelude.{IfOk};
 ghost use Rattle.store_statements.specs.Clauses.{Lasts};
@@ -14,8 +14,8 @@ use std::alloc::Global;
 use store_bytes::Contents;
 
 /// Ends an open session whose bytes are known to match the digest, and they are a blob; a digest that is
-/// there keeps its bytes. Answers whether it did so; where it did not, nothing has changed. Over a pack it
-/// never does.
+/// there keeps its bytes. Answers whether it did so; where it did not, nothing has changed. Over a pack, too,
+/// it touches the rows alone.
 pub(crate) fn finish_known<S: Alter, C: Contents>(
     alloc: Global,
     conn: &mut Connection<S>,
@@ -42,8 +42,5 @@ pub(crate) fn finish_known<S: Alter, C: Contents>(
     ensures known { StaysKnowing S.Store C.Contents (conn.old, contents.now) (conn.new, contents.now) result
         known.old known.new }
 {
-    if !contents.are_in_tables() {
-        return Ok(false);
-    }
-    counted_sessions::finish_known(alloc, conn, known, repo, number, digest)
+    counted_sessions::finish_known(alloc, conn, known, contents, repo, number, digest)
 }

@@ -18,6 +18,7 @@ mod origin;
 mod pack_reclaim;
 mod pack_store;
 mod reclaim;
+mod restoring;
 mod row_writes;
 mod staged_writes;
 mod store;

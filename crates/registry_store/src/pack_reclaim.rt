@@ -23,7 +23,12 @@ fn or_later(given: Result<(), Fault>) -> Result<(), Fault>
 impl<D: Disk + Drop> Reclaim for PackContents<D> {
     fn clear<S: Alter>(&mut self, alloc: Global, conn: &mut Connection<S>) -> Result<(), Fault> {
         match clear_pack(alloc, conn) {
-            Ok(()) => or_later(self.give_back(alloc, conn)),
+            Ok(()) => {
+                let given = self.give_back(alloc, conn);
+                // (where the file cannot be made shorter, its end is written again)
+                let _ = self.trim();
+                or_later(given)
+            }
             Err(fault) => Err(fault),
         }
     }

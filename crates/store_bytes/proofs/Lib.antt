@@ -1,3 +1,4 @@
 pub mod CheckedReads
 pub mod KeepingLemmas
 pub mod Readings
+pub mod OfKind

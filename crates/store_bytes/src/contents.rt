@@ -6,10 +6,11 @@ ghost use Rattle.sqlite.specs.Effect.{Database};
 ghost use Rattle.sqlite.specs.Order.{Row};
 ghost use Rattle.sqlite.specs.Held.{state};
 ghost use Rattle.store_contents.specs.Layouts.{Layout, InTables};
-ghost use Rattle.store_statements.specs.Between.{Finds, Stays};
+ghost use Rattle.store_statements.specs.Between.{Finds, Keeps, Stays};
 ghost use Rattle.store_statements.specs.Clauses.{Lasts};
+ghost use Rattle.store_statements.specs.ContentShown.{has_sha256_digest};
 ghost use Rattle.store_bytes.specs.declared.staged.Staged.{Staged};
-ghost use Rattle.store_bytes.specs.Keeping.{KeepsBytes, AllPlaces};
+ghost use Rattle.store_bytes.specs.Keeping.{AreOfKind, KeepsBytes, AllPlaces};
 ghost use Rattle.store_bytes.specs.Staging.{HasSize, IsClear, IsStaged, runs_staged};
 
 use crate::staged::Staged;
@@ -56,6 +57,22 @@ pub trait Contents: Drop {
     /// Whether bytes are cells of the tables.
     fn are_in_tables(&self) -> bool
         ensures { IsTrue result → layout self.now ≡ InTables };
+
+    /// Whether the content's bytes have the digest, of one of sha256; of any other `false`, as where there is
+    /// no such content. No bytes are read, so it is known of each layout of this kind.
+    fn has_digest<S: Alter>(
+        &self,
+        conn: &mut Connection<S>,
+        id: ContentId,
+        digest: &str,
+    ) -> Result<bool, Fault>
+        ensures found { (l : Layout) → AreOfKind (layout self.now) l
+            → Finds S.Store l conn.old conn.new result
+            (λ t has. has ≡ has_sha256_digest (t.contents id.id) digest.now) }
+        ensures settled { (l : Layout) → AreOfKind (layout self.now) l
+            → Stays S.Store l conn.old conn.new result }
+        ensures kept { (l : Layout) → AreOfKind (layout self.now) l → Keeps S.Store l conn.old conn.new }
+        ensures survives { Lasts S.Store conn.old conn.new };
 
     /// The bytes of the content, or `None` where there is no such content. Nothing changes.
     fn read<S: Alter>(

@@ -44,6 +44,18 @@ impl<A: Contents, B: Contents> Contents for Either<A, B> {
         }
     }
 
+    fn has_digest<S: Alter>(
+        &self,
+        conn: &mut Connection<S>,
+        id: ContentId,
+        digest: &str,
+    ) -> Result<bool, Fault> {
+        match self {
+            Either::Left(one) => one.has_digest(conn, id, digest),
+            Either::Right(other) => other.has_digest(conn, id, digest),
+        }
+    }
+
     fn read<S: Alter>(
         &mut self,
         alloc: Global,

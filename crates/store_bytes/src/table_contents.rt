@@ -8,6 +8,7 @@ use oci_types::Fault;
 use sqlite::{Alter, Connection};
 use std::alloc::Global;
 use store_contents::{ContentId, read_bytes};
+use store_statements::contents;
 use store_statements::telling::checked;
 
 /// The bytes of each content are a column of its row.
@@ -39,6 +40,15 @@ impl Contents for TableContents {
 
     fn are_in_tables(&self) -> bool {
         true
+    }
+
+    fn has_digest<S: Alter>(
+        &self,
+        conn: &mut Connection<S>,
+        id: ContentId,
+        digest: &str,
+    ) -> Result<bool, Fault> {
+        contents::has_digest(conn, id, digest)
     }
 
     fn read<S: Alter>(

@@ -3,6 +3,7 @@ pub mod Fresh
 pub mod InsideLemmas
 pub mod SearchLemmas
 pub mod HashLemmas
+pub mod PackDigestLemmas
 pub mod AddLemmas
 pub mod RemoveLemmas
 pub mod ReadLemmas

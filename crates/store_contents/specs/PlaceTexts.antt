@@ -27,6 +27,9 @@ content_find = codes "SELECT size FROM registry_contents WHERE id = ?1"
 abbrev pub content_list : List ℕ
 content_list = codes "SELECT id FROM registry_contents"
 
+abbrev pub content_hash : List ℕ
+content_hash = codes "SELECT sha256 FROM registry_contents WHERE id = ?1"
+
 -- ---- places: a row goes (rowid, content, start, size, at)
 
 abbrev pub place_add : List ℕ
@@ -81,6 +84,8 @@ pub record KnowsContentTexts (schema : Schema) (stands : Stands schema contents_
   pub find : Means schema content_find
       (selects schema contents_table by_id (col 1 3 ∷ []) (codes "size" ∷ []))
   pub list : Means schema content_list (selects schema contents_table [] (col 1 0 ∷ []) (codes "id" ∷ []))
+  pub hash : Means schema content_hash
+      (selects schema contents_table by_id (col 1 2 ∷ []) (codes "sha256" ∷ []))
 
 pub record KnowsPlaceTexts (schema : Schema) (stands : Stands schema places_table) : Type 0 where
   pub add : Means schema place_add (Insert stands.at (Values place_add_terms 5))

@@ -1,5 +1,5 @@
 -- What a pack keeps of the bytes that rows name, through its calls and in each outcome of a crash.
-use Rattle.std.proofs.Common.{◌≡◌, ◌⊎◌, inl, inr, ◌∙◌, ℕ, pos, zero, suc, ◌+◌, ◌≤◌, ◌<◌, List, [], ◌∷◌, length, slice_range, get_or, append-nil, false, true≢false, Ok, Err, Result, OnOk, sym, subst, arith}
+use Rattle.std.proofs.Common.{◌≡◌, ◌⊎◌, inl, inr, ◌∙◌, ℕ, pos, zero, suc, ◌+◌, ◌≤◌, ◌<◌, ◌↔◌, List, [], ◌∷◌, length, slice_range, get_or, append-nil, false, true≢false, Ok, Err, Result, OnOk, refl, sym, subst, arith}
 use Rattle.std.specs.Prelude.{is_err}
 use Rattle.std.proofs.lemmas.Bool.{cases_lt}
 use Rattle.std.specs.List.{AllByRecursion}
@@ -12,7 +12,7 @@ use Rattle.std.proofs.lemmas.List.Sorted.{IsPermutation-sym}
 use Rattle.store_pack.specs.Opening.{AreSpared, AreThere}
 use Rattle.store_places.specs.Places.{runs_at}
 use Rattle.registry_pack.specs.Holes.{IsFree}
-use Rattle.registry_pack.proofs.RangeLemmas.{Holds-range, range_is}
+use Rattle.registry_pack.proofs.RangeLemmas.{Holds-range, length-range, range_is}
 use Rattle.sqlite.specs.Effect.{Database}
 use Rattle.sqlite_disk.specs.declared.Disk.{Ghosts}
 use Rattle.registry_pack.specs.declared.extent.Extent.{Extent}
@@ -23,8 +23,8 @@ use Rattle.registry_pack.specs.declared.head.HeadCopy.TheVariants.{First, Second
 use Rattle.registry_pack.specs.Blocks.{IsInBlocks, IsInUse, block_ceil, block_floor}
 use Rattle.registry_pack.specs.Extents.{AreApart, AreWithin, bytes_at, bytes_of, ends_at, size_of, starts_at}
 use Rattle.registry_pack.specs.Heads.{head_bytes, offset_of}
-use Rattle.registry_pack.specs.Pack.{IsWritable, KeepsRetired, KeepsSpace, KeepsWritable, age_of, file_of, head_of}
-use Rattle.registry_pack.specs.Standing.{KeepsAll, KeepsElsewhere, Lasts}
+use Rattle.registry_pack.specs.Pack.{IsWritable, KeepsRetired, KeepsSpace, KeepsWritable, age_of, end_of, file_of, head_of}
+use Rattle.registry_pack.specs.Standing.{KeepsAll, KeepsBelow, KeepsElsewhere, Lasts}
 use Rattle.registry_pack.proofs.HeadLemmas.{length-head_bytes}
 use Rattle.registry_pack.proofs.StandingLemmas.{KeepsElsewhere-all, KeepsElsewhere-then}
 use Rattle.store_contents.specs.Layouts.{InPack}
@@ -32,7 +32,7 @@ use Rattle.store_contents.specs.Places.{pack_rows, place_rows, runs_of}
 use Rattle.store_bytes.specs.Keeping.{AllPlaces, KeepsBytes}
 use Rattle.store_bytes.proofs.KeepingLemmas.{IsSameAt, keeps_bytes}
 use Rattle.store_pack.specs.Contents as contents
-use Rattle.store_pack.specs.Contents.{IsPlaced, IsRemembered, IsSpared, Names, Places, Refuses, Spares}
+use Rattle.store_pack.specs.Contents.{IsNamedBy, IsPlaced, IsRemembered, IsSpared, Names, Places, Refuses, Spares}
 use Rattle.store_pack.specs.Pack.{SaysAge}
 use Rattle.store_pack.proofs.JointLemmas.{run_lasting, run_still}
 
@@ -142,6 +142,68 @@ module _ {D : Type 0} {g : Ghosts D} (old new : Pack D g) (bytes : List ℕ) (e 
       by : IsInUse (e ∷ []) p → ⊥
       by (inl k) = it.closed p low high (places.was_writable p k)
       by (inr none) = none
+
+-- ---- the end of the file is cut off
+
+module _ {D : Type 0} {g : Ghosts D} (old new : Pack D g) (below : KeepsBelow g (end_of new) (file_of old) (file_of new)) (heads : KeepsBelow g 8192 (file_of old) (file_of new))
+    (writable : (p : ℕ) → IsWritable new p ↔ IsWritable old p) (retired : KeepsRetired old new) (head : head_of new ≡ head_of old) where
+  -- what is remembered may not be written, so it ends before the end
+  ends_before : (run : ℕ × ℕ) → IsRemembered old run → run.0 + run.1 ≤ end_of new
+  ends_before run it =
+      elim (cases_lt (end_of new) (run.0 + run.1)) [
+        | inr low ↦ low
+        | inl high ↦ elim (cases_lt (end_of new) run.0) [
+          | inl behind ↦ absurd (it.closed run.0 (omega arith) (omega (arith, it.placed.some)) ((writable run.0).0 (inr (omega (arith, behind)))))
+          | inr within ↦ absurd (it.closed (end_of new) (omega (arith, within)) high ((writable (end_of new)).0 (inr (omega arith))))
+        ]
+      ]
+
+  abbrev range_of : ℕ × ℕ → List ℕ
+  range_of run = slice_range (g.seen (file_of old)) run.0 (run.0 + run.1)
+
+  lasts_still : (run : ℕ × ℕ) → IsRemembered old run → Lasts g (file_of new) run.0 (range_of run)
+  lasts_still run it = below.lasts run.0 (range_of run) (omega (arith, ends_before run it, length-range (g.seen (file_of old)) run.0 run.1 it.kept.within)) it.kept.lasts
+
+  range_still : (run : ℕ × ℕ) → IsRemembered old run → slice_range (g.seen (file_of new)) run.0 (run.0 + run.1) ≡ range_of run
+  range_still run it = range_is (g.seen (file_of new)) (range_of run) run.0 run.1 (length-range (g.seen (file_of old)) run.0 run.1 it.kept.within) (lasts_still run it).now
+
+  in_head : (copy : HeadCopy) (said : Head) → offset_of copy + length (head_bytes said) ≤ 8192
+  in_head First said = omega (arith, length-head_bytes said)
+  in_head Second said = omega (arith, length-head_bytes said)
+
+  pub spares_cut : Spares old new
+  spares_cut = record {
+    kept = λ run it. record {
+      within = omega (arith, (lasts_still run it).now.within, length-range (g.seen (file_of old)) run.0 run.1 it.kept.within);
+      lasts = subst (Lasts g (file_of new) run.0) (sym (range_still run it)) (lasts_still run it);
+    };
+    bytes = range_still;
+    writable = λ p may. (writable p).0 may;
+    retired = retired;
+    refuses = λ age it. record { copy = it.copy; head = it.head; lasts = heads.lasts (offset_of it.copy) (head_bytes it.head) (in_head it.copy it.head) it.lasts; higher = it.higher };
+    head = head;
+    clean = below.clean;
+  }
+
+pub spares_itself : {D : Type 0} {g : Ghosts D} (pack : Pack D g) → Spares pack pack
+spares_itself pack = record { kept = λ run it. it.kept; bytes = λ run it. refl; writable = λ p may. may; retired = refl; refuses = λ age it. it; head = refl; clean = λ is. is }
+
+pub spares_then : {D : Type 0} {g : Ghosts D} (old mid new : Pack D g) → Spares old mid → Spares mid new → Spares old new
+spares_then old mid new a b = record {
+  kept = λ run it. b.kept run (still_remembered old mid a run it);
+  bytes = λ run it. b.bytes run (still_remembered old mid a run it) ∙ a.bytes run it;
+  writable = λ p may. a.writable p (b.writable p may);
+  retired = b.retired ∙ a.retired;
+  refuses = λ age it. b.refuses age (a.refuses age it);
+  head = b.head ∙ a.head;
+  clean = λ is. a.clean (b.clean is);
+}
+
+pub still_spared : {D : Type 0} {g : Ghosts D} (old new : Pack D g) → Spares old new → (run : ℕ × ℕ) → IsSpared old run → IsSpared new run
+still_spared old new spares run it = record { remembered = still_remembered old new spares run it.remembered; closed = λ p low high may. it.closed p low high (subst (λ h. IsFree h p) spares.retired may) }
+
+pub still_named : {D : Type 0} {g : Ghosts D} (old new : Pack D g) → head_of new ≡ head_of old → (rows : List Row) → Names old rows → Names new rows
+still_named old new same rows it = subst (λ (h : Head). IsNamedBy h rows) (sym same) it
 
 -- ---- extents that are released
 

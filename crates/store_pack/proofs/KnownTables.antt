@@ -14,7 +14,7 @@ use Rattle.store_schema.specs.Commands.{deletes, selects, selects_ordered, updat
 use Rattle.store_schema.specs.Layout.{IsUnreferred, Stands, tree_of}
 use Rattle.store_schema.proofs.Meanings.{means_by}
 use Rattle.store_contents.specs.PlaceTables.{contents_table, pack_table, places_table}
-use Rattle.store_contents.specs.PlaceTexts.{IsAlone, KnowsContentTexts, KnowsPackTexts, KnowsPlaceTexts, KnowsPlaces, by_first, by_id, content_add, content_add_terms, content_find, content_list, content_remove, pack_put, pack_put_terms, pack_read, pack_set_age, pack_set_terms, place_add, place_add_terms, place_list, place_list_all, place_remove}
+use Rattle.store_contents.specs.PlaceTexts.{IsAlone, KnowsContentTexts, KnowsPackTexts, KnowsPlaceTexts, KnowsPlaces, by_first, by_id, content_add, content_add_terms, content_find, content_hash, content_list, content_remove, pack_put, pack_put_terms, pack_read, pack_set_age, pack_set_terms, place_add, place_add_terms, place_list, place_list_all, place_remove}
 
 abbrev pub made_schema : Schema
 made_schema = created (created (created no_schema pack_table) contents_table) places_table
@@ -74,6 +74,7 @@ content_texts = record {
   remove = means_by made_schema content_remove (deletes contents_stand.at made_schema contents_table by_id) refl;
   find = means_by made_schema content_find (selects made_schema contents_table by_id (col 1 3 ∷ []) (codes "size" ∷ [])) refl;
   list = means_by made_schema content_list (selects made_schema contents_table [] (col 1 0 ∷ []) (codes "id" ∷ [])) refl;
+  hash = means_by made_schema content_hash (selects made_schema contents_table by_id (col 1 2 ∷ []) (codes "sha256" ∷ [])) refl;
 }
 
 place_texts : KnowsPlaceTexts made_schema places_stand

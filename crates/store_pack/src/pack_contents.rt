@@ -19,6 +19,7 @@ use std::alloc::Global;
 use std::io;
 use store_bytes::{Contents, Staged};
 use store_contents::ContentId;
+use store_statements::contents::has_digest_in_pack;
 
 /// The pack of a registry. What rows name is neither free nor retired, so that it is not written over.
 #[derive(Drop)]
@@ -179,6 +180,42 @@ impl<D: Disk + Drop> PackContents<D> {
     }
 }
 
+impl<D: Disk + Drop> PackContents<D> {
+    ghost use Rattle.std.specs.Prelude.{◌≤◌, ◌<◌, ◌↔◌, ℕ, List, length, IsTrue, OnOk};
+    ghost use Rattle.sqlite.specs.Effect.{Database};
+    ghost use Rattle.sqlite.specs.Order.{Row};
+    ghost use Rattle.registry_pack.specs.Pack.{IsWritable, end_of, head_of};
+    ghost use Rattle.store_bytes.specs.Keeping.{AllPlaces, KeepsBytes};
+
+    /// Cuts space off the end of the file that may be written: it may be so still, and the file grows when it
+    /// is. No byte changes that rows name, or have named in this age, also in what a crash leaves. After an
+    /// error the file may be used again; it is as long as it was, or shorter. A pack whose storage has failed
+    /// is not touched.
+    pub fn trim(&mut self) -> io::Result<()>
+        ensures end { end_of self.new.pack ≤ end_of self.old.pack }
+        ensures cut { OnOk result (end_of self.new.pack < end_of self.old.pack
+            → length (D.Disk.seen (file_of self.new.pack)) ≡ end_of self.new.pack) }
+        ensures writable { (p : ℕ) → IsWritable self.new.pack p ↔ IsWritable self.old.pack p }
+        ensures head { head_of self.new.pack ≡ head_of self.old.pack }
+        ensures names { (rows : List Row) → Names self.old.pack rows → Names self.new.pack rows }
+        ensures spared { (run : ℕ × ℕ) → IsSpared self.old.pack run → IsSpared self.new.pack run }
+        ensures remembered { (run : ℕ × ℕ) → IsRemembered self.old.pack run
+            → IsRemembered self.new.pack run }
+        ensures bytes { (db : Database)
+            → AllPlaces (IsRemembered self.old.pack) (InPack (D.Disk.seen (file_of self.old.pack))) db
+            → KeepsBytes (InPack (D.Disk.seen (file_of self.old.pack)))
+            (InPack (D.Disk.seen (file_of self.new.pack))) db }
+        ensures refuses { (age : ℕ) → Refuses self.old.pack age → Refuses self.new.pack age }
+        ensures clean { IsTrue (D.Disk.is_clean (file_of self.new.pack))
+            → IsTrue (D.Disk.is_clean (file_of self.old.pack)) }
+    {
+        if !self.pack.may_be_used() {
+            return Ok(());
+        }
+        self.pack.trim()
+    }
+}
+
 impl<D: Disk + Drop> Contents for PackContents<D> {
     ghost use Rattle.store_pack.specs.Lasting.{Leaves, pack_lasts};
 
@@ -204,6 +241,15 @@ impl<D: Disk + Drop> Contents for PackContents<D> {
 
     fn are_in_tables(&self) -> bool {
         false
+    }
+
+    fn has_digest<S: Alter>(
+        &self,
+        conn: &mut Connection<S>,
+        id: ContentId,
+        digest: &str,
+    ) -> Result<bool, Fault> {
+        has_digest_in_pack(conn, id, digest)
     }
 
     fn read<S: Alter>(

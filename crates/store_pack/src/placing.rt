@@ -46,9 +46,19 @@ fn fill<D: Disk>(pack: &mut Pack<D>, extent: Extent, bytes: &[u8]) -> Result<(),
     }
 }
 
+/// Cuts off the end of the file what may be written, where the file may be used still: what a write took that
+/// found no room on the disk is given back.
+fn cut_end<D: Disk>(pack: &mut Pack<D>)
+    ensures { Spares pack.old pack.new }
+{
+    if pack.may_be_used() {
+        let _ = pack.trim();
+    }
+}
+
 /// Writes the bytes at an extent that was free, and makes them last. `Fault::Memory` where there is no room
-/// for them, or they could not be written: the place is free as before. `Fault::Storage` where the file could
-/// not be synced: it may not be used again.
+/// for them, or they could not be written: the place is free as before, and if it was at the end of the file,
+/// it is cut off. `Fault::Storage` where the file could not be synced: it may not be used again.
 pub(crate) fn place<D: Disk>(pack: &mut Pack<D>, bytes: &[u8]) -> Result<Extent, Fault>
     requires usable { IsTrue (D.Disk.is_usable (file_of pack.old)) }
     requires some { 0 < length bytes.now }
@@ -58,8 +68,13 @@ pub(crate) fn place<D: Disk>(pack: &mut Pack<D>, bytes: &[u8]) -> Result<Extent,
     let Some(extent) = pack.allocate(bytes.len()) else {
         return Err(Fault::Memory);
     };
-    fill(pack, extent, bytes)?;
-    Ok(extent)
+    match fill(pack, extent, bytes) {
+        Ok(()) => Ok(extent),
+        Err(fault) => {
+            cut_end(pack);
+            Err(fault)
+        }
+    }
 }
 
 /// The same of the blocks of each of the extents.

@@ -17,7 +17,9 @@ use oci_types::Fault;
 use registry_pack::Extent;
 use sqlite::{Alter, Connection, Transaction};
 use std::alloc::Global;
-use store_contents::{ContentId, find_or_add, find_or_add_hashed, find_or_add_with, is_hashed};
+use store_contents::{
+    ContentId, find_or_add, find_or_add_hashed, find_or_add_with, is_hashed, is_hashed_in_pack,
+};
 use store_places::{Source, add_hashed};
 
 /// The content of the tables that has the bytes: it was there, or it is added.
@@ -156,6 +158,27 @@ pub fn has_digest<S: Alter>(
 {
     match digest.strip_prefix("sha256:") {
         Some(sha256) => match is_hashed(conn, content, sha256) {
+            Ok(found) => Ok(found),
+            Err(fault) => Err(checked_fault(conn, fault)),
+        },
+        None => Ok(false),
+    }
+}
+
+/// The same where the bytes of contents are in a pack: it is known by rows alone.
+pub fn has_digest_in_pack<S: Alter>(
+    conn: &mut Connection<S>,
+    content: ContentId,
+    digest: &str,
+) -> Result<bool, Fault>
+    ensures found { (file : List ℕ) → Finds S.Store (InPack file) conn.old conn.new result
+        (λ t has. has ≡ has_sha256_digest (t.contents content.id) digest.now) }
+    ensures settled { (file : List ℕ) → Stays S.Store (InPack file) conn.old conn.new result }
+    ensures kept { (file : List ℕ) → Keeps S.Store (InPack file) conn.old conn.new }
+    ensures survives { Lasts S.Store conn.old conn.new }
+{
+    match digest.strip_prefix("sha256:") {
+        Some(sha256) => match is_hashed_in_pack(conn, content, sha256) {
             Ok(found) => Ok(found),
             Err(fault) => Err(checked_fault(conn, fault)),
         },

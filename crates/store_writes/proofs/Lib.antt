@@ -17,3 +17,4 @@ pub mod SessionWrites
 pub mod KnownEnds
 pub mod ContentsStay
 pub mod SomeBytes
+pub mod LastNumbers

@@ -6,7 +6,7 @@ use Rattle.store_statements.specs.Keys.{has_key}
 use Rattle.store_statements.specs.Tables.{Tables}
 use Rattle.store_statements.specs.Steps.{blobs_without}
 use Rattle.store_writes.specs.declared.change.Change.{Change}
-use Rattle.store_writes.specs.declared.change.Change.TheVariants.{AddBlob, AddLink, TakeBlob, TakeBlobs, AddManifest, SetTag, TakeManifest, TakeTag, SetLevel, TakeLevel, TakeLevels, SetRepo, DropRepo, Session, Clear, ClearPack}
+use Rattle.store_writes.specs.declared.change.Change.TheVariants.{AddBlob, AddLink, TakeBlob, TakeBlobs, AddManifest, SetTag, TakeManifest, TakeTag, SetLevel, TakeLevel, TakeLevels, SetRepo, SetLast, DropRepo, Session, Clear, ClearPack}
 use Rattle.store_writes.specs.declared.session_change.SessionChange.{SessionChange}
 use Rattle.store_writes.specs.declared.session_change.SessionChange.TheVariants.{Open, Append, Finish, Link, Take, TakeAll}
 use Rattle.store_writes.specs.Changing.{Makes, IsInPack, IsInTables}
@@ -38,6 +38,7 @@ schema_kept l (SetLevel token repo level) t u it = ap (λ (x : Tables). x.beside
 schema_kept l (TakeLevel token repo) t u it = ap (λ (x : Tables). x.beside) it
 schema_kept l (TakeLevels token) t u it = ap (λ (x : Tables). x.beside) it
 schema_kept l (SetRepo repo quota) t u it = ap (λ (x : Tables). x.beside) it.others
+schema_kept l (SetLast repo number) t u it = ap (λ (x : Tables). x.beside) it
 schema_kept l (DropRepo repo) t u it = ap (λ (x : Tables). x.beside) it
 schema_kept l (Session change) t u it = session_kept l change t u it
 schema_kept l (Clear alloc) t u it = ap (λ (x : Tables). x.beside) it.others

@@ -7,16 +7,16 @@ use Rattle.registry_model.specs.Lookups.{put_manifest}
 use Rattle.store_contents.specs.Layouts.{Layout, InTables, InPack}
 use Rattle.store_places.specs.Source.{IfBytes, runs_in, size_in, text_in}
 use Rattle.store_places.specs.Source as source-specs
-use Rattle.store_statements.specs.Changes.{Grow}
+use Rattle.store_statements.specs.Changes.{Grow, with_last}
 use Rattle.store_statements.specs.Keys.{of_first, has_key}
 use Rattle.store_statements.specs.Tables.{Tables, IsEmptyBeside}
 use Rattle.store_statements.specs.Registry.{Agree, is_repo}
 use Rattle.store_statements.specs.World.{world_of}
 use Rattle.store_statements.specs.Drops.{dropped}
-use Rattle.store_statements.specs.Steps.{tags_without, grants_without, blobs_without, without_manifest, BlobStored}
+use Rattle.store_statements.specs.Steps.{repos_changed, tags_without, grants_without, blobs_without, without_manifest, BlobStored}
 use Rattle.store_statements.specs.StepsFrom.{LinkIsPut}
 use Rattle.store_writes.specs.declared.change.Change.{Change}
-use Rattle.store_writes.specs.declared.change.Change.TheVariants.{AddBlob, AddLink, TakeBlob, TakeBlobs, AddManifest, SetTag, TakeManifest, TakeTag, SetLevel, TakeLevel, TakeLevels, SetRepo, DropRepo, Session, Clear, ClearPack}
+use Rattle.store_writes.specs.declared.change.Change.TheVariants.{AddBlob, AddLink, TakeBlob, TakeBlobs, AddManifest, SetTag, TakeManifest, TakeTag, SetLevel, TakeLevel, TakeLevels, SetRepo, SetLast, DropRepo, Session, Clear, ClearPack}
 use Rattle.store_writes.specs.Deleting.{without_blob_links}
 use Rattle.store_writes.specs.Naming.{Cleared, FreesPlaces}
 use Rattle.store_writes.specs.Puts.{LevelIsPut, QuotaIsPut}
@@ -33,6 +33,7 @@ Fits (AddManifest alloc repo digest source manifest tag) =
     source-specs.Fits source × (size_in source < 2 ^ 63)
     × IfBytes (λ bytes. matches digest.now bytes ≡ true) source
 Fits (SetRepo repo quota) = quota < 2 ^ 63
+Fits (SetLast repo number) = number < 2 ^ 63
 Fits (Session change) = SessionFits change
 Fits _ = ⊤
 
@@ -86,6 +87,7 @@ Makes l (SetLevel token repo level) t u = LevelIsPut t u token.now repo.now leve
 Makes l (TakeLevel token repo) t u = u ≡ grants_without (has_key token.now repo.now) t
 Makes l (TakeLevels token) t u = u ≡ grants_without (of_first token.now) t
 Makes l (SetRepo repo quota) t u = QuotaIsPut t u repo.now quota
+Makes l (SetLast repo number) t u = u ≡ repos_changed (of_first repo.now) (with_last number) t
 Makes l (DropRepo repo) t u = u ≡ dropped repo.now t
 Makes l (Session change) t u = SessionMakes l change t u
 Makes l (Clear alloc) t u = Cleared t u

@@ -78,6 +78,11 @@ pub(crate) enum Change<'a> {
         repo: &'a str,
         quota: u64,
     },
+    /// This is the last number that an upload session of the repository got.
+    SetLast {
+        repo: &'a str,
+        number: u64,
+    },
     /// A repository goes, with all that it has.
     DropRepo {
         repo: &'a str,

@@ -13,6 +13,7 @@ use crate::change::Change;
 use crate::content_clearing::clear_contents;
 use crate::deletions::{take_links_to, take_manifest};
 use crate::grant_changes::put_level;
+use crate::last_numbers::put_last;
 use crate::manifest_puts::{add_tagged, put_tag_if};
 use crate::pack_clearing::clear_placed;
 use crate::quota_changes::put_quota;
@@ -71,6 +72,7 @@ fn work<S: Alter>(tx: &mut Transaction<'_, S>, change: Change<'_>) -> Result<(),
         Change::TakeLevel { token, repo } => take_grant(tx, token, repo),
         Change::TakeLevels { token } => take_token_grants(tx, token),
         Change::SetRepo { repo, quota } => put_quota(tx, repo, quota),
+        Change::SetLast { repo, number } => put_last(tx, repo, number),
         Change::DropRepo { repo } => drop_rows(tx, repo),
         Change::Session(session) => change_session(tx, session),
         Change::Clear { alloc } => clear_contents(alloc, tx),

@@ -4,7 +4,8 @@ ghost use Rattle.sqlite.specs.State.{HasCleanDisk};
 ghost use Rattle.sqlite.specs.Held.{state};
 ghost use Rattle.registry_model.specs.Lookups.{blob_at, session_size_at};
 ghost use Rattle.registry_model.specs.Closing.{session_matches, finish_as_is};
-ghost use Rattle.store_contents.specs.Layouts.{Layout, InTables};
+ghost use Rattle.store_contents.specs.Layouts.{Layout};
+ghost use Rattle.store_bytes.specs.Keeping.{AreOfKind};
 ghost use Rattle.store_statements.specs.Keys.{has_key};
 ghost use Rattle.store_statements.specs.Between.{CrashLeaves, Finds, GoesBack, MakesWorld, Relates, StaysOnMemory, Tells};
 ghost use Rattle.store_statements.specs.Clauses.{KeepsInside, Lasts, LastsUncommitted, TablesHave};
@@ -21,6 +22,7 @@ use crate::whole_sessions::find_known;
 use oci_types::{Digest, Fault, RepoName};
 use sqlite::{Alter, Connection, Transaction};
 use std::alloc::Global;
+use store_bytes::Contents;
 use store_statements::blobs::{BlobLink, add_blob_link, find_blob_link};
 use store_statements::numbers::LARGEST;
 
@@ -74,6 +76,7 @@ fn finish_whole<S: Alter>(
         (λ w came. came ≡ is_none (blob_at w repo.now digest.now)) }
     ensures stays { (l : Layout)
         → Relates S.Store l conn.old conn.new result (λ t u. u.contents ≡ t.contents) }
+    ensures places { (l : Layout) → Relates S.Store l conn.old conn.new result KeepsPlaces }
     ensures memory { (l : Layout) → StaysOnMemory S.Store l conn.old conn.new result }
     ensures back { (l : Layout) → GoesBack S.Store l conn.old conn.new result }
     ensures crash { (l : Layout)
@@ -105,28 +108,37 @@ fn finish_whole<S: Alter>(
 /// Ends an open session of one piece whose content has the digest, one of sha256: the blob gets that content,
 /// and no byte is read or written. Answers what it did; where it did not, nothing has changed. A digest that
 /// is there keeps its bytes.
-pub fn finish_known<S: Alter>(
+pub fn finish_known<S: Alter, C: Contents>(
     alloc: Global,
     conn: &mut Connection<S>,
+    contents: &C,
     repo: &RepoName,
     number: u64,
     digest: &Digest,
 ) -> Result<Option<KnownEnd>, Fault>
-    ensures made { HasCleanDisk (state S.Store conn.new) → IsSettled InTables (state S.Store conn.old)
+    ensures made { (l : Layout) → AreOfKind (C.Contents.layout contents.now) l
+        → HasCleanDisk (state S.Store conn.new) → IsSettled l (state S.Store conn.old)
         → IfOk result
-        (λ end. DoneWhereSo InTables (is_some end) (state S.Store conn.old) (state S.Store conn.new)
+        (λ end. DoneWhereSo l (is_some end) (state S.Store conn.old) (state S.Store conn.new)
         (λ w. session_matches w repo.now number digest.now)
         (λ w. finish_as_is w repo.now number digest.now)) }
-    ensures known { number < 2 ^ 63 → Finds S.Store InTables conn.old conn.new result
+    ensures known { (l : Layout) → AreOfKind (C.Contents.layout contents.now) l
+        → number < 2 ^ 63 → Finds S.Store l conn.old conn.new result
         (λ t end. is_some end ≡ is_some (known_link t repo.now number digest.now)) }
-    ensures ended { Tells S.Store InTables conn.old conn.new result (λ w end. IfSome end
+    ensures ended { (l : Layout) → AreOfKind (C.Contents.layout contents.now) l
+        → Tells S.Store l conn.old conn.new result (λ w end. IfSome end
         (λ e. (session_size_at w repo.now number ≡ Some e.size)
         × (e.came ≡ is_none (blob_at w repo.now digest.now)))) }
-    ensures stays { Relates S.Store InTables conn.old conn.new result (λ t u. u.contents ≡ t.contents) }
-    ensures places { Relates S.Store InTables conn.old conn.new result KeepsPlaces }
-    ensures memory { StaysOnMemory S.Store InTables conn.old conn.new result }
-    ensures back { GoesBack S.Store InTables conn.old conn.new result }
-    ensures crash { CrashEnds S.Store InTables conn.old conn.new result
+    ensures stays { (l : Layout) → AreOfKind (C.Contents.layout contents.now) l
+        → Relates S.Store l conn.old conn.new result (λ t u. u.contents ≡ t.contents) }
+    ensures places { (l : Layout) → AreOfKind (C.Contents.layout contents.now) l
+        → Relates S.Store l conn.old conn.new result KeepsPlaces }
+    ensures memory { (l : Layout) → AreOfKind (C.Contents.layout contents.now) l
+        → StaysOnMemory S.Store l conn.old conn.new result }
+    ensures back { (l : Layout) → AreOfKind (C.Contents.layout contents.now) l
+        → GoesBack S.Store l conn.old conn.new result }
+    ensures crash { (l : Layout) → AreOfKind (C.Contents.layout contents.now) l
+        → CrashEnds S.Store l conn.old conn.new result
         (λ w. session_matches w repo.now number digest.now)
         (λ w. finish_as_is w repo.now number digest.now) }
     ensures survives { Lasts S.Store conn.old conn.new }
@@ -136,7 +148,7 @@ pub fn finish_known<S: Alter>(
     }
     let repo = repo.as_str();
     let digest = digest.as_str();
-    match find_known(alloc, conn, repo, number, digest) {
+    match find_known(alloc, conn, contents, repo, number, digest) {
         Ok(Some(link)) => match finish_whole(conn, repo, number, digest, link) {
             Ok(came) => Ok(Some(KnownEnd {
                 size: link.size,

@@ -1,6 +1,7 @@
 //! Upload sessions of one piece: their bytes are those of one content, whose digest is known unread.
 ghost use Rattle.std.specs.Prelude.{◌≡◌, ◌<◌, ◌^◌, MatchResult, if◌then◌else◌, Some, None, Ok, Err};
-ghost use Rattle.store_contents.specs.Layouts.{Layout, InTables};
+ghost use Rattle.store_contents.specs.Layouts.{Layout};
+ghost use Rattle.store_bytes.specs.Keeping.{AreOfKind};
 ghost use Rattle.store_statements.specs.Between.{Finds, Keeps, Stays};
 ghost use Rattle.store_statements.specs.Clauses.{Lasts};
 ghost use Rattle.store_writes.specs.Whole.{only_link, whole_link, known_link};
@@ -8,9 +9,9 @@ ghost use Rattle.store_writes.specs.Whole.{only_link, whole_link, known_link};
 use oci_types::Fault;
 use sqlite::{Alter, Connection};
 use std::alloc::Global;
+use store_bytes::Contents;
 use store_contents::ContentId;
 use store_statements::blobs::BlobLink;
-use store_statements::contents::has_digest;
 use store_statements::pieces::pieces_in_order;
 use store_statements::uploads::find_upload;
 
@@ -73,22 +74,25 @@ fn with_digest(found: Result<bool, Fault>, link: BlobLink) -> Result<Option<Blob
 
 /// The link to the content of an open session that has one piece and this digest of sha256. No bytes are
 /// read.
-pub(crate) fn find_known<S: Alter>(
+pub(crate) fn find_known<S: Alter, C: Contents>(
     alloc: Global,
     conn: &mut Connection<S>,
+    contents: &C,
     repo: &str,
     number: u64,
     digest: &str,
 ) -> Result<Option<BlobLink>, Fault>
     requires fits { number < 2 ^ 63 }
-    ensures found { Finds S.Store InTables conn.old conn.new result
-        (λ t o. o ≡ known_link t repo.now number digest.now) }
-    ensures settled { Stays S.Store InTables conn.old conn.new result }
-    ensures kept { Keeps S.Store InTables conn.old conn.new }
+    ensures found { (l : Layout) → AreOfKind (C.Contents.layout contents.now) l
+        → Finds S.Store l conn.old conn.new result (λ t o. o ≡ known_link t repo.now number digest.now) }
+    ensures settled { (l : Layout) → AreOfKind (C.Contents.layout contents.now) l
+        → Stays S.Store l conn.old conn.new result }
+    ensures kept { (l : Layout) → AreOfKind (C.Contents.layout contents.now) l
+        → Keeps S.Store l conn.old conn.new }
     ensures survives { Lasts S.Store conn.old conn.new }
 {
     match find_whole(alloc, conn, repo, number) {
-        Ok(Some(link)) => with_digest(has_digest(conn, link.content, digest), link),
+        Ok(Some(link)) => with_digest(contents.has_digest(conn, link.content, digest), link),
         Ok(None) => Ok(None),
         Err(fault) => Err(fault),
     }

@@ -6,7 +6,8 @@ ghost use Rattle.registry_model.specs.Limits.{largest};
 ghost use Rattle.registry_maps.specs.Maps.{world_of};
 
 use super::MapKeeper;
-use oci_types::RepoName;
+use oci_types::{Fault, RepoName};
+use registry_copy::Restore;
 use registry_model::Keeper;
 
 impl MapKeeper {
@@ -22,5 +23,12 @@ impl MapKeeper {
         if let Some(repository) = self.repos.get_mut(name) {
             repository.last = last;
         }
+    }
+}
+
+impl Restore for MapKeeper {
+    fn set_last(&mut self, repo: &RepoName, number: u64) -> Result<(), Fault> {
+        self.set_last_number(repo, number);
+        Ok(())
     }
 }

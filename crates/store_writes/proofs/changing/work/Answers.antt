@@ -117,6 +117,17 @@ returns-in-SetRepo g c = record {
   survives = c.put_quota.ensures.survives;
 }
 
+pub put_last-requires : goal.put_last-requires
+put_last-requires g c = record { fits = rw c.in-SetLast.is at c.requires.fits }
+
+pub returns-in-SetLast : goal.returns-in-SetLast
+returns-in-SetLast g c = record {
+  made = rw c.in-SetLast.is (λ l suits clean is asks. c.put_last.ensures.set l clean is);
+  kept = λ l suits clean is asks. c.put_last.ensures.kept l clean is;
+  same_reference = c.put_last.ensures.same_reference;
+  survives = c.put_last.ensures.survives;
+}
+
 pub returns-in-DropRepo : goal.returns-in-DropRepo
 returns-in-DropRepo g c = record {
   made = rw c.in-DropRepo.is (λ l suits. c.drop_rows.ensures.dropped l);

@@ -21,7 +21,9 @@ use Rattle.registry_model.specs.Closing.{finish_as_is}
 use Rattle.store_statements.specs.Steps.{sessions_without}
 use Rattle.store_writes.specs.Whole.{WholeEnds}
 use Rattle.store_statements.specs.Tables.{Tables}
-use Rattle.store_writes.proofs.ContentsStay.{same_from}
+use Rattle.store_statements.specs.PlaceChanges.{KeepsPlaces}
+use Rattle.store_statements.proofs.PlacesKept.{places_as}
+use Rattle.store_writes.proofs.ContentsStay.{from_read, same_from}
 use Rattle.store_writes.proofs.known_finish.finish_whole.Goals as goal
 
 pub returns-in-Ok-Some : goal.returns-in-Ok-Some
@@ -56,6 +58,9 @@ returns-in-Ok-Some g c =
       stays = λ l clean is.
           let stays = c.in-Ok-Some.ensures.settled l (was_clean c.make.ensures.survives clean) is refl in
           came_so c.make.result false c.tell_came.result c.tell_came.ensures (λ it. same_from old mid stays new (ap (λ (t : Tables). t.contents) it.1)) (c.make.ensures.made l tt (λ early. tt) clean stays.0);
+      places = λ l clean is.
+          let stays = c.in-Ok-Some.ensures.settled l (was_clean c.make.ensures.survives clean) is refl in
+          came_so c.make.result false c.tell_came.result c.tell_came.ensures (λ it. from_read old mid stays KeepsPlaces new (places_as _ _ _ it.1 refl refl)) (c.make.ensures.made l tt (λ early. tt) clean stays.0);
       survives = survives_all old mid new _ _ c.find_blob_link.ensures.survives c.make.ensures.survives;
     }
 
@@ -103,6 +108,12 @@ returns-in-Ok-None g c =
           let found = sym c.in-Ok-None.field-0-is ∙ c.in-Ok-None.ensures.found l late is in
           came_so c.make-in-Ok-None.result true c.tell_came-in-Ok-None.result c.tell_came-in-Ok-None.ensures (λ it. same_from old mid stays new (ap (λ (t : Tables). t.contents) it.1.others))
           (c.make-in-Ok-None.ensures.made l tt (λ early. still_none old mid c.args.repo.now c.args.digest.now stays found) clean stays.0);
+      places = λ l clean is.
+          let late : HasCleanDisk mid = was_clean c.make-in-Ok-None.ensures.survives clean in
+          let stays = c.in-Ok-None.ensures.settled l late is refl in
+          let found = sym c.in-Ok-None.field-0-is ∙ c.in-Ok-None.ensures.found l late is in
+          came_so c.make-in-Ok-None.result true c.tell_came-in-Ok-None.result c.tell_came-in-Ok-None.ensures (λ it. from_read old mid stays KeepsPlaces new (places_as _ _ _ it.1.others refl refl))
+          (c.make-in-Ok-None.ensures.made l tt (λ early. still_none old mid c.args.repo.now c.args.digest.now stays found) clean stays.0);
       survives = survives_all old mid new _ _ c.find_blob_link.ensures.survives c.make-in-Ok-None.ensures.survives;
     }
 
@@ -120,6 +131,7 @@ returns-in-Ok-None-2 g c = record {
   back = λ l clean is. (c.find_blob_link.ensures.kept l clean is).back;
   crash = λ l known clean is. crash_failed g.S.Store c.args.conn.now c.find_blob_link.new.conn (λ w. finish_as_is w c.args.repo.now c.args.number c.args.digest.now) is (c.find_blob_link.ensures.kept l clean is);
   stays = λ l clean is. tt;
+  places = λ l clean is. tt;
   survives = c.find_blob_link.ensures.survives;
 }
 
@@ -131,5 +143,6 @@ returns-in-Err g c = record {
   back = λ l clean is. (c.find_blob_link.ensures.kept l clean is).back;
   crash = λ l known clean is. crash_failed g.S.Store c.args.conn.now c.find_blob_link.new.conn (λ w. finish_as_is w c.args.repo.now c.args.number c.args.digest.now) is (c.find_blob_link.ensures.kept l clean is);
   stays = λ l clean is. tt;
+  places = λ l clean is. tt;
   survives = c.find_blob_link.ensures.survives;
 }

@@ -4,7 +4,6 @@ use Rattle.sqlite.specs.Held.{state}
 use Rattle.store_statements.specs.Held.{held}
 use Rattle.store_statements.proofs.SettledAfter.{stays_then}
 use Rattle.store_statements.proofs.Transactions.{survives_all}
-use Rattle.store_contents.specs.Layouts.{InTables}
 use Rattle.store_writes.proofs.KnownEnds.{known_found, no_known, digest_made, unspent_before}
 use Rattle.store_statements.proofs.CleanBefore.{was_clean}
 use Rattle.store_statements.proofs.Crashes.{kept_then}
@@ -17,24 +16,24 @@ returns-in-Ok-Some g c =
     let new = state g.S.Store c.has_digest.new.conn in
     let early : HasCleanDisk new → HasCleanDisk mid = was_clean c.has_digest.ensures.survives in
     record {
-      found = λ clean is.
-          let stays = c.in-Ok-Some.ensures.settled InTables (early clean) is refl in
-          known_found old mid stays c.args.repo.now c.args.number c.args.digest.now c.in-Ok-Some.link c.with_digest.result (sym c.in-Ok-Some.field-0-is ∙ c.in-Ok-Some.ensures.found InTables (early clean) is)
-          (digest_made (held InTables mid) c.args.digest.now c.in-Ok-Some.link c.has_digest.result c.with_digest.result c.with_digest.ensures (c.has_digest.ensures.found clean stays.0));
-      settled = λ clean is unspent.
-          let stays = c.in-Ok-Some.ensures.settled InTables (early clean) is refl in
-          stays_then old mid new stays (c.has_digest.ensures.settled clean stays.0 (unspent_before (λ so. cond so (Some c.in-Ok-Some.link) None) c.has_digest.result c.with_digest.result c.with_digest.ensures unspent));
-      kept = λ clean is.
-          let stays = c.in-Ok-Some.ensures.settled InTables (early clean) is refl in
-          kept_then old mid new is stays (c.has_digest.ensures.kept clean stays.0);
+      found = λ l kind clean is.
+          let stays = c.in-Ok-Some.ensures.settled l (early clean) is refl in
+          known_found old mid stays c.args.repo.now c.args.number c.args.digest.now c.in-Ok-Some.link c.with_digest.result (sym c.in-Ok-Some.field-0-is ∙ c.in-Ok-Some.ensures.found l (early clean) is)
+          (digest_made (held l mid) c.args.digest.now c.in-Ok-Some.link c.has_digest.result c.with_digest.result c.with_digest.ensures (c.has_digest.ensures.found l kind clean stays.0));
+      settled = λ l kind clean is unspent.
+          let stays = c.in-Ok-Some.ensures.settled l (early clean) is refl in
+          stays_then old mid new stays (c.has_digest.ensures.settled l kind clean stays.0 (unspent_before (λ so. cond so (Some c.in-Ok-Some.link) None) c.has_digest.result c.with_digest.result c.with_digest.ensures unspent));
+      kept = λ l kind clean is.
+          let stays = c.in-Ok-Some.ensures.settled l (early clean) is refl in
+          kept_then old mid new is stays (c.has_digest.ensures.kept l kind clean stays.0);
       survives = survives_all old mid new _ _ c.find_whole.ensures.survives c.has_digest.ensures.survives;
     }
 
 pub returns-in-Ok-None : goal.returns-in-Ok-None
 returns-in-Ok-None g c = record {
-  found = λ clean is. no_known (held InTables (state g.S.Store c.args.conn.now)) c.args.repo.now c.args.number c.args.digest.now (sym c.in-Ok-None.field-0-is ∙ c.in-Ok-None.ensures.found InTables clean is);
-  settled = λ clean is unspent. c.in-Ok-None.ensures.settled InTables clean is refl;
-  kept = c.find_whole.ensures.kept InTables;
+  found = λ l kind clean is. no_known (held l (state g.S.Store c.args.conn.now)) c.args.repo.now c.args.number c.args.digest.now (sym c.in-Ok-None.field-0-is ∙ c.in-Ok-None.ensures.found l clean is);
+  settled = λ l kind clean is unspent. c.in-Ok-None.ensures.settled l clean is refl;
+  kept = λ l kind. c.find_whole.ensures.kept l;
   survives = c.find_whole.ensures.survives;
 }
 
@@ -43,8 +42,8 @@ find_whole-requires g c = record { fits = c.requires.fits }
 
 pub returns-in-Err : goal.returns-in-Err
 returns-in-Err g c = record {
-  found = λ clean is. tt;
-  settled = λ clean is unspent. c.in-Err.ensures.settled InTables clean is unspent;
-  kept = c.find_whole.ensures.kept InTables;
+  found = λ l kind clean is. tt;
+  settled = λ l kind clean is unspent. c.in-Err.ensures.settled l clean is unspent;
+  kept = λ l kind. c.find_whole.ensures.kept l;
   survives = c.find_whole.ensures.survives;
 }

@@ -12,8 +12,10 @@ use Rattle.store_statements.specs.Between.{Outcomes}
 use Rattle.store_statements.specs.Held.{IsSettled, SettlesOn, tables_in, world_in}
 use Rattle.store_statements.specs.World.{world_of}
 use Rattle.store_statements.specs.Tables.{Beside}
-use Rattle.registry_store.proofs.PackCalls.{cleared_order, given_contents, given_left, given_order, outcomes_settled, rows_settled, uncleared_left}
-use Rattle.registry_store.proofs.RowCalls.{same_order}
+use Rattle.registry_store.proofs.PackCalls.{bytes_cut, cleared_order, given_contents, given_left, given_order, outcomes_settled, rows_settled, uncleared_left}
+use Rattle.store_contents.specs.Places.{place_rows, runs_of}
+use Rattle.store_pack.specs.Contents.{IsSpared}
+use Rattle.registry_store.proofs.RowCalls.{all_are, same_order}
 use Rattle.registry_store.proofs.pack_reclaim.PackContentsReclaim.clear.Goals as goal
 
 -- ---- the contents went
@@ -22,20 +24,23 @@ pub returns-in-Ok-clause-made : goal.returns-in-Ok-clause-made
 returns-in-Ok-clause-made g c clean is =
     let old = state g.S.Store c.args.conn.now in
     let mid = state g.S.Store c.clear_pack.new.conn in
-    let new = state g.S.Store c.give_back.new.conn in
+    let new = state g.S.Store c.give_back-given.new.conn in
     let k0 = c.args.self.now in
-    let k1 = c.give_back.new.self in
+    let k1 = c.give_back-given.new.self in
+    let k2 = c.trim.new.self in
     let file = g.D.Disk.seen (file_of k0.pack) in
-    let early : HasCleanDisk mid = was_clean mid new c.give_back.ensures.survives clean.0 in
+    let early : HasCleanDisk mid = was_clean mid new c.give_back-given.ensures.survives clean.0 in
     let made = c.in-Ok.ensures.made file early is.settled in
     let after = cleared_order c.args.conn.now c.clear_pack.new.conn k0 is made.0 (c.in-Ok.ensures.places file early is.settled) in
     let says = said_as_named mid.now k0.pack after.named in
-    let spared = c.give_back.ensures.spared clean.0 after.settled.holds.contents.rows after.spared in
+    let spared = c.give_back-given.ensures.spared clean.0 after.settled.holds.contents.rows after.spared in
+    let still = all_are (IsSpared k1.pack) (IsSpared k2.pack) c.trim.ensures.spared (runs_of (place_rows mid.now)) spared in
+    let bytes = bytes_cut k0.pack k1.pack k2.pack (place_rows mid.now) after.spared spared c.give_back-given.ensures.bytes c.trim.ensures.bytes in
     less c.or_later.result
     (λ lives.
-    let kept = c.give_back.ensures.tables file clean.0 after.settled says lives in
-    let named = named_as_said new.now k1.pack (c.give_back.ensures.named clean.0 (rows_settled file mid after.settled) says lives) in
-    let it = given_order c.clear_pack.new.conn c.give_back.new.conn k0 k1 after spared c.give_back.ensures.bytes kept.settles kept.tables named in
+    let kept = c.give_back-given.ensures.tables file clean.0 after.settled says lives in
+    let named = c.trim.ensures.names _ (named_as_said new.now k1.pack (c.give_back-given.ensures.named clean.0 (rows_settled file mid after.settled) says lives)) in
+    let it = given_order c.clear_pack.new.conn c.give_back-given.new.conn k0 k2 after still bytes kept.settles kept.tables named in
     (it.0, it.1 ∙ made.1))
     c.or_later.ensures.done
 
@@ -43,19 +48,22 @@ pub returns-in-Ok-clause-freed : goal.returns-in-Ok-clause-freed
 returns-in-Ok-clause-freed g c clean is =
     let old = state g.S.Store c.args.conn.now in
     let mid = state g.S.Store c.clear_pack.new.conn in
-    let new = state g.S.Store c.give_back.new.conn in
+    let new = state g.S.Store c.give_back-given.new.conn in
     let k0 = c.args.self.now in
-    let k1 = c.give_back.new.self in
+    let k1 = c.give_back-given.new.self in
+    let k2 = c.trim.new.self in
     let file = g.D.Disk.seen (file_of k0.pack) in
-    let early : HasCleanDisk mid = was_clean mid new c.give_back.ensures.survives clean.0 in
+    let early : HasCleanDisk mid = was_clean mid new c.give_back-given.ensures.survives clean.0 in
     let made = c.in-Ok.ensures.made file early is.settled in
     let after = cleared_order c.args.conn.now c.clear_pack.new.conn k0 is made.0 (c.in-Ok.ensures.places file early is.settled) in
     let says = said_as_named mid.now k0.pack after.named in
-    let spared = c.give_back.ensures.spared clean.0 after.settled.holds.contents.rows after.spared in
+    let spared = c.give_back-given.ensures.spared clean.0 after.settled.holds.contents.rows after.spared in
+    let still = all_are (IsSpared k1.pack) (IsSpared k2.pack) c.trim.ensures.spared (runs_of (place_rows mid.now)) spared in
+    let bytes = bytes_cut k0.pack k1.pack k2.pack (place_rows mid.now) after.spared spared c.give_back-given.ensures.bytes c.trim.ensures.bytes in
     less c.or_later.result
     (λ lives id.
-    let kept = c.give_back.ensures.tables file clean.0 after.settled says lives in
-    given_contents c.clear_pack.new.conn c.give_back.new.conn k0 k1 after spared c.give_back.ensures.bytes kept.settles kept.tables id ∙ c.in-Ok.ensures.freed file early is.settled id)
+    let kept = c.give_back-given.ensures.tables file clean.0 after.settled says lives in
+    given_contents c.clear_pack.new.conn c.give_back-given.new.conn k0 k2 after still bytes kept.settles kept.tables id ∙ c.in-Ok.ensures.freed file early is.settled id)
     c.or_later.ensures.done
 
 pub returns-in-Ok-clause-memory : goal.returns-in-Ok-clause-memory
@@ -65,29 +73,32 @@ pub returns-in-Ok-clause-crash : goal.returns-in-Ok-clause-crash
 returns-in-Ok-clause-crash g c clean is m may =
     let old = state g.S.Store c.args.conn.now in
     let mid = state g.S.Store c.clear_pack.new.conn in
-    let new = state g.S.Store c.give_back.new.conn in
+    let new = state g.S.Store c.give_back-given.new.conn in
     let k0 = c.args.self.now in
-    let k1 = c.give_back.new.self in
+    let k1 = c.give_back-given.new.self in
+    let k2 = c.trim.new.self in
     let file = g.D.Disk.seen (file_of k0.pack) in
-    let early : HasCleanDisk mid = was_clean mid new c.give_back.ensures.survives clean.0 in
+    let early : HasCleanDisk mid = was_clean mid new c.give_back-given.ensures.survives clean.0 in
     let made = c.in-Ok.ensures.made file early is.settled in
     let after = cleared_order c.args.conn.now c.clear_pack.new.conn k0 is made.0 (c.in-Ok.ensures.places file early is.settled) in
     let says = said_as_named mid.now k0.pack after.named in
-    let spared = c.give_back.ensures.spared clean.0 after.settled.holds.contents.rows after.spared in
+    let spared = c.give_back-given.ensures.spared clean.0 after.settled.holds.contents.rows after.spared in
+    let still = all_are (IsSpared k1.pack) (IsSpared k2.pack) c.trim.ensures.spared (runs_of (place_rows mid.now)) spared in
+    let bytes = bytes_cut k0.pack k1.pack k2.pack (place_rows mid.now) after.spared spared c.give_back-given.ensures.bytes c.trim.ensures.bytes in
     let crash =
     subst
-    (λ (l : Layout). IsSettled l mid → Outcomes mid.now new (λ s. OnOk c.give_back.result (SettlesOn l s (world_in l mid))) (λ s. SettlesOn l s (world_in l mid)) (λ s. SettlesOn l s (world_in l mid)))
-    (sym may.2) (λ there. c.give_back.ensures.crash may.0 says clean.0 there) in
+    (λ (l : Layout). IsSettled l mid → Outcomes mid.now new (λ s. OnOk c.give_back-given.result (SettlesOn l s (world_in l mid))) (λ s. SettlesOn l s (world_in l mid)) (λ s. SettlesOn l s (world_in l mid)))
+    (sym may.2) (λ there. c.give_back-given.ensures.crash may.0 says clean.0 there) in
     let schema = ap (λ (b : Beside). b.schema) (c.in-Ok.ensures.beside file early is.settled) in
     outcomes_settled m _ old.now new c.or_later.result
-    (given_left c.clear_pack.new.conn c.give_back.new.conn k0 k1 after spared c.give_back.ensures.bytes old.now schema _ made.1 m may (λ s. OnOk c.give_back.result (SettlesOn m s (world_in m mid))) crash)
+    (given_left c.clear_pack.new.conn c.give_back-given.new.conn k0 k2 after still bytes old.now schema _ made.1 m may (λ s. OnOk c.give_back-given.result (SettlesOn m s (world_in m mid))) crash)
 
 pub returns-in-Ok-clause-clean : goal.returns-in-Ok-clause-clean
 returns-in-Ok-clause-clean g c clean =
     let old = state g.S.Store c.args.conn.now in
     let mid = state g.S.Store c.clear_pack.new.conn in
-    let new = state g.S.Store c.give_back.new.conn in
-    (was_clean old mid c.clear_pack.ensures.survives (was_clean mid new c.give_back.ensures.survives clean.0), c.give_back.ensures.elsewhere.clean clean.1)
+    let new = state g.S.Store c.give_back-given.new.conn in
+    (was_clean old mid c.clear_pack.ensures.survives (was_clean mid new c.give_back-given.ensures.survives clean.0), c.give_back-given.ensures.elsewhere.clean (c.trim.ensures.clean clean.1))
 
 -- ---- they did not
 
