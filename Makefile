@@ -6,7 +6,7 @@ PROCESSORS := $(shell nproc)
 DEMO := stdio --memory --repo team/app=1000 --grant t1=team/app=3
 
 .PHONY: help demo build try test check edits dear lint check-file check-rows check-words check-hostile check-clients check-install
-.PHONY: check-docs check-container bench bench-quick bench-http install deb fmt clean
+.PHONY: check-docs check-container bench bench-quick bench-http bench-senses bench-day install deb fmt clean
 
 # docs/PERFORMANCE.md has what was measured.
 help:
@@ -25,8 +25,8 @@ help:
 	@echo 'make check-file      a server'"'"'s file after pushes by curl, looked at by sqlite3'
 	@echo 'make check-rows      the worked examples by the program itself, over a file (after make test; 10 s)'
 	@echo 'make check-words     command lines, and what they say, end with and leave in files (after make test; 1 min)'
-	@echo 'make check-hostile   refuses each growth of memory, stops the disk at each write, kills servers, gives orders'
-	@echo '                     beside requests (after make test; 13 min)'
+	@echo 'make check-hostile   refuses each growth of memory, stops the disk at each write, kills servers, puts older'
+	@echo '                     copies back, gives orders beside requests (after make test; 18 min)'
 	@echo 'make check-clients   curl, skopeo, ctr, buildah, podman, oras-go and docker straight and through nginx, those'
 	@echo '                     that are installed (deploy/install-clients.sh installs them), and two edges before one'
 	@echo '                     registry; ONLY=straight'
@@ -39,6 +39,10 @@ help:
 	@echo '                     (under 9 min, after make build; OLD=path: beside an older executable as well, 10 min)'
 	@echo 'make bench-quick     its ten lines that matter (60 s, after make build)'
 	@echo 'make bench-http      requests a second over standard input, beside cat and sha256sum'
+	@echo 'make bench-senses    whether time tells that another team holds bytes, over both layouts (4 h; with'
+	@echo '                     TRIES=150 LARGE=16 a quarter of an hour)'
+	@echo 'make bench-day       20 images pushed and pulled by skopeo, over contents beside the database, beside'
+	@echo '                     docker-registry where installed; then half of them deleted, and as many pushed'
 	@echo 'make fmt, make clean lays out the sources; removes what was built'
 
 # demo/requests.http on one connection, and the five replies, byte for byte. Without a build, the same
@@ -145,6 +149,17 @@ bench-quick: build
 # Requests a second and MB/s over standard input, beside `cat` and `sha256sum` of the same bytes (python3).
 bench-http: build
 	python3 -m bench.stdio
+
+# Pushes of bytes that another team holds, and of others, in random order: which are the quicker (python3).
+# TRIES and LARGE (of 8 MiB and more) say of how many of each.
+TRIES = 400
+LARGE = $(TRIES)
+bench-senses: build
+	python3 -m bench.senses --tries $(TRIES) --large $(LARGE)
+
+# A day of a registry whose contents are beside its database (python3, skopeo; docker-registry).
+bench-day: build
+	python3 -m bench.day
 
 fmt:
 	for crate in crates/*/; do (cd $$crate && rt fmt) || exit 1; done

@@ -155,6 +155,8 @@ def service_environment():
 
 class Firkhen(Peer):
     fields = {"Authorization": "Bearer t1"}
+    # where what the server says goes, if not where this program's does
+    said = None
 
     def __init__(self, name, executable, new, room, takes_orders=False, words=()):
         self.name, self.executable, self.words, self.sock = name, executable, words, None
@@ -169,7 +171,7 @@ class Firkhen(Peer):
         words = [self.executable, "serve", "--db", self.store, "--listen", f"127.0.0.1:{self.port}"]
         words += [*(["--orders", self.orders] if self.orders else []), *self.words]
         start = time.perf_counter()
-        self.process = subprocess.Popen(words, stdout=subprocess.PIPE, env=service_environment())
+        self.process = subprocess.Popen(words, stdout=subprocess.PIPE, stderr=self.said, env=service_environment())
         self.process.stdout.readline()
         self.opened = time.perf_counter() - start
         self.connect()

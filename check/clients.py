@@ -1,11 +1,12 @@
 """Real clients to a server over a file: straight, and through nginx with TLS as deploy/nginx has it.
 
-    python3 -m check.clients [straight] [nginx] [edges] [CLIENT..]    some of the ways, or all; these clients, or all
+    python3 -m check.clients [WAY..] [CLIENT..]    some of the ways, or all; these clients, or all
 
 *straight* (check/straight.py): those that can be given a token push, pull, are refused, and push twelve layers; eight
 push and pull at once; skopeo carries what buildah and podman keep. Then, to a server with `--login http`
 (check/logins.py), all push and pull by a name and a password, which is the token; docker logs in and pulls; and each
 is refused with a wrong password.
+*beside*: the first of these once more, to a registry whose contents are beside its database.
 *nginx*: nginx is started with a certificate that is made here, and behind it `registry serve` with the options of the
 service, both in a folder that is taken away again. Each client pushes and pulls, mounts, is refused as a stranger and
 where a layer or a quota is too large; then skopeo and ctr straight, and buildah and podman through nginx, push and
@@ -36,9 +37,9 @@ from check.front import Front
 from check.layout import Layout
 from check.logins import log_in
 from check.serving import basic, end, must
-from check.straight import all_at_once, go_straight
+from check.straight import Beside, all_at_once, go_straight
 
-WAYS = ["straight", "nginx", "edges"]
+WAYS = ["straight", "beside", "nginx", "edges"]
 
 
 def look_at_the_front(front):
@@ -182,6 +183,8 @@ def main():
     if "straight" in ways:
         go_straight(only)
         log_in(only)
+    if "beside" in ways:
+        go_straight(only, Beside)
     through = {"nginx", "edges"}.intersection(ways)
     if "nginx" in ways and not lacking:
         go_through_nginx(only)

@@ -1,9 +1,9 @@
 """Builds the image of deploy/container, and runs the registry in it.
 
-What the image holds and says; a server that is started by the image's own words, on a port of its own; an order, a
-push and a pull; and its end by `registry stop`. It wants buildah, curl and the rights of root; where these, or what
-`buildah run --isolation chroot` needs of the system, are not to be had, it says so and ends with status 3.
-`make check-container` calls this.
+What the image holds and says; a server that is started by the image's own words, on a port of its own; an
+order, a push and a pull; its end by `registry stop`; and that the contents of its registry are beside the
+database. It wants buildah, curl and the rights of root; where these, or what `buildah run --isolation chroot`
+needs of the system, are not to be had, it says so and ends with status 3. `make check-container` calls this.
 """
 import hashlib
 import json
@@ -12,6 +12,7 @@ import shutil
 import subprocess
 import sys
 import tempfile
+from contextlib import suppress
 
 from tools.shared import TOP
 from check.serving import until
@@ -84,9 +85,25 @@ def look_at_server(container, words, room):
             ran = run(*asked, *code, "--data-binary", "abc", f"{at}/uploads/?digest={digest}")
             say(ran.stdout == "201", "a push", ran.stdout)
             say(run(*asked, f"{at}/{digest}").stdout == "abc", "a pull")
+            found = files_of(server)
+            held = {"registry.db", "registry.db-contents"} <= found
+            say(held, "a new registry has its contents beside its database", str(found))
             ran = container.registry("stop", *ORDERS)
             say(ran.returncode == 0, "registry stop", ran.stdout)
             say(server.wait(timeout=60) == 0, "the server ends with status 0")
+
+
+def files_of(process):
+    """The names of the files that a process has open, or one that it has started."""
+    found, left = set(), [process.pid]
+    while left:
+        at = f"/proc/{left.pop()}"
+        with suppress(OSError):
+            for task in os.listdir(f"{at}/task"):
+                with open(f"{at}/task/{task}/children", encoding="ascii") as it:
+                    left += it.read().split()
+            found |= {os.path.basename(os.readlink(f"{at}/fd/{it}")) for it in os.listdir(f"{at}/fd")}
+    return found
 
 
 def main():

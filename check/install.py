@@ -1,19 +1,24 @@
 """Looks at what `make install` and `make deb` make, in a folder that is taken away again.
 
 The files and their modes; that each page which a page names is there; that a second installation leaves the
-administrator's files as they are; that the man page and the completion say what --help says, line by line; that
-the service's further words are options of `serve`; the unit, by systemd-analyze; and that the package has the same
-files. Tools that are not installed are named. `make check-install` calls this.
+administrator's files as they are; that the man page and the completion say what --help says, line by line;
+that the service's further words are options of `serve`; the unit, by systemd-analyze; that the unit's own
+words start and stop a server, of a new registry whose contents are beside its database, and of one in tables
+that was there; and that the package has the same files. Tools that are not installed are named. `make
+check-install` calls this.
 """
 import glob
 import os
 import re
 import shutil
+import sqlite3
 import subprocess
 import sys
 import tempfile
+from contextlib import closing
 
-from tools.shared import REGISTRY, TOP
+from tools.shared import REGISTRY, TOP, free_port
+from check.serving import listens, until
 
 PROGRAM = f"{TOP}/build/registry"
 FILES = {
@@ -165,6 +170,50 @@ def look_at_the_unit(room):
     say(score and float(score[1]) < EXPOSURE, f"systemd-analyze security: {score and score[1]}", ran.text[-500:])
 
 
+def words_of_unit(room, state):
+    """The words that start and stop the service, over a folder, as systemd makes them of the installed unit:
+    `${NAME}` is a word, and `$NAME` as many as it has."""
+    with open(f"{room}/usr/lib/systemd/system/firkhen.service", encoding="utf-8") as it:
+        text = it.read()
+    own = {"STATE_DIRECTORY": state, "LISTEN": f"127.0.0.1:{free_port()}", "ORDERS": f"{state}/orders.sock"}
+    own["OPTIONS"] = re.findall(r'^Environment=.*"OPTIONS=(.*)"$', text, re.MULTILINE)[0]
+
+    def made(line):
+        words = re.findall(rf"^{line}=/usr/bin/registry (.*)$", text, re.MULTILINE)[0].split()
+        parts = [[PROGRAM], *(own[it[1:]].split() if re.fullmatch(r"\$\w+", it) else [it] for it in words)]
+        return [re.sub(r"\$\{(\w+)\}", lambda found: own[found[1]], it) for part in parts for it in part]
+
+    return own, made("ExecStart"), made("ExecStop")
+
+
+def look_at_a_start(room, state, has_contents, what):
+    """By the unit's words."""
+    own, start, stop = words_of_unit(room, state)
+    with subprocess.Popen(start, stdout=subprocess.DEVNULL, stderr=subprocess.DEVNULL) as server:
+        until(lambda: listens(int(own["LISTEN"].split(":")[1])), what)
+        ran = run(PROGRAM, "usage", "--orders", own["ORDERS"])
+        say(ran.returncode == 0, f"the unit starts a server: {what}", ran.text)
+        ran = run(*stop)
+        say(ran.returncode == 0 and server.wait(60) == 0, "and stops it, with status 0", ran.text)
+    contents = f"{state}/registry.db-contents"
+    where = "beside" if has_contents else "in"
+    say(os.path.exists(contents) == has_contents, f"contents are {where} the database")
+    if has_contents:
+        say(os.stat(contents).st_mode & 0o777 == 0o600, "in a file that is its owner's alone")
+    with closing(sqlite3.connect(f"{state}/registry.db")) as con:
+        version = con.execute("SELECT version FROM registry_schema").fetchall()
+    say(version == [(3 if has_contents else 2,)], "and its tables say so", str(version))
+
+
+def look_at_starts(room):
+    """Of a new registry, twice, and of one in tables."""
+    with tempfile.TemporaryDirectory() as new, tempfile.TemporaryDirectory() as old:
+        look_at_a_start(room, new, True, "a new registry")
+        look_at_a_start(room, new, True, "the same once more")
+        run(PROGRAM, "repo", "--db", f"{old}/registry.db", "--name", "team/app", "--quota", "1000")
+        look_at_a_start(room, old, False, "a registry in tables that was there")
+
+
 def look_at_the_package():
     if not has("dpkg-deb", "dpkg-shlibdeps"):
         return
@@ -194,6 +243,7 @@ def main():
         look_at_the_completion(room, told)
         look_at_the_options(room, told)
         look_at_the_unit(room)
+        look_at_starts(room)
     look_at_the_package()
     print(f"{say.wrong} wrong" if say.wrong else "what is installed is as it should be")
     return 1 if say.wrong else 0

@@ -16,14 +16,20 @@ def bytes_of(seed, size):
     return hashlib.shake_128(seed.encode()).digest(size)
 
 
-def layer_of(name, content):
-    """A tar of one file, and the same in gzip."""
+def tar_of(name, content):
+    """A tar of one file."""
     tar = io.BytesIO()
     with tarfile.open(fileobj=tar, mode="w") as it:
         entry = tarfile.TarInfo(name)
         entry.size = len(content)
         it.addfile(entry, io.BytesIO(content))
-    return tar.getvalue(), gzip.compress(tar.getvalue(), 1, mtime=0)
+    return tar.getvalue()
+
+
+def layer_of(name, content):
+    """A tar of one file, and the same in gzip."""
+    tar = tar_of(name, content)
+    return tar, gzip.compress(tar, 1, mtime=0)
 
 
 class Layout:

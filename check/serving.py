@@ -85,6 +85,8 @@ class Serving:
     logins = LOGINS
     # the record of requests, and what its lines have of a mount and of a blob that is too large
     options, record = ["--log"], "registry.log"
+    # what a new registry is told of where its contents are
+    layout = []
     mount, too_large = ["POST /v2/team/lib/blobs/uploads/ 201 "], [" 413 "]
 
     def __init__(self, room):
@@ -92,7 +94,7 @@ class Serving:
         self.host = self.plain_host = f"127.0.0.1:{self.inner}"
         self.url = f"http://{self.host}"
         for name, quota in QUOTAS.items():
-            must(REGISTRY, "repo", "--db", self.db, "--name", name, "--quota", quota)
+            must(REGISTRY, "repo", "--db", self.db, *self.layout, "--name", name, "--quota", quota)
         for token, name in GRANTS:
             must(REGISTRY, "grant", "--db", self.db, "--token", token, "--name", name, "--level", 3)
 

@@ -1,8 +1,9 @@
 """Real clients straight to the server, with a token and without TLS: one after the other, and several at once.
 
-curl, skopeo and ctr can be given a token, and docker, which only pulls. buildah and podman have a name and password
-alone, and look for a place that changes them for a token, which a server has with --login (check/logins.py). Here it
-has none, and skopeo carries what they keep.
+curl, skopeo and ctr can be given a token, and docker, which only pulls. buildah and podman have a name and
+password alone, and look for a place that changes them for a token, which a server has with --login
+(check/logins.py). Here it has none, and skopeo carries what they keep. The same is asked of a registry whose
+contents are beside its database.
 """
 import json
 import os
@@ -13,7 +14,8 @@ from concurrent.futures import ThreadPoolExecutor
 from check.asking import MIB, Check, is_there, say
 from check.client_kinds import Buildah, Ctr, Curl, Docker, Podman, Skopeo
 from check.layout import Layout
-from check.serving import Serving
+from check.serving import Serving, must
+from tools.shared import REGISTRY
 
 # what a client says that is to ask `registry`, the realm of the challenge, for a token
 NO_PLACE = "unsupported protocol scheme"
@@ -126,9 +128,22 @@ def pull_by_docker(serving):
     say(found == image.config, "docker: what it pulled is the image that was made", found)
 
 
-def go_straight(only):
+class Beside(Serving):
+    """A server over a registry whose contents are beside its database."""
+
+    layout = ["--layout", "beside"]
+
+
+def look_at_the_files(serving):
+    """Whether a registry has a file beside it as its layout says, and each blob the bytes of its digest."""
+    is_beside = os.path.exists(f"{serving.db}-contents")
+    say(is_beside == bool(serving.layout), f"contents are {'beside' if is_beside else 'in'} the database")
+    say(must(REGISTRY, "check", "--db", serving.db) == "", "and each blob and manifest is its digest's")
+
+
+def go_straight(only, kind_of_serving=Serving):
     """Over a server that nothing stands before."""
-    with tempfile.TemporaryDirectory() as room, Serving(room) as serving:
+    with tempfile.TemporaryDirectory() as room, kind_of_serving(room) as serving:
         layouts = {
             "two": Layout(f"{room}/two", "two", MIB, ("amd64", "arm64")),
             "quota": Layout(f"{room}/quota", "quota", 300_000),
@@ -137,13 +152,16 @@ def go_straight(only):
         for kind in (Curl, StraightSkopeo, StraightCtr):
             if (not only or kind.name in only) and is_there(kind):
                 client = kind(serving)
-                print(f"{client.name} {client.version()}, straight")
+                where = ", contents beside" if serving.layout else ""
+                print(f"{client.name} {client.version()}, straight{where}")
                 StraightCheck(serving, client, layouts).all()
         if (not only or "skopeo" in only) and not Skopeo.lacks():
             push_and_pull_eight_at_once(serving)
             carry_what_others_keep(serving)
         if (not only or "docker" in only) and is_there(Docker) and not Curl.lacks():
             pull_by_docker(serving)
+        serving.end()
+        look_at_the_files(serving)
 
 
 def all_at_once(front, rounds=3):

@@ -32,9 +32,10 @@ The database of the service
 the log
 .I registry.db-wal
 beside it is part of it, and so is
-.I registry.db-contents
-where it was made with
-.BR "\\-\\-layout beside" .
+.IR registry.db-contents ,
+which a registry has that was made with
+.BR "\\-\\-layout beside" ,
+as the service does.
 One process has them open at a time.
 .TP
 .I /run/firkhen/orders.sock

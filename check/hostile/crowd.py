@@ -7,16 +7,16 @@ import time
 
 from check.hostile.said import SECONDS, say
 from check.hostile.server import Server, answer, answered_alone, collected
-from check.hostile.writes import ABC, AT, ORDERS, order, push, request
+from check.hostile.writes import ABC, AT, LAYOUTS, ORDERS, order, push, request
 from tools.shared import digest
 
 LARGE = 64 << 20
 GET_ABC = request("GET", f"{AT}/blobs/{digest(ABC)}")
 
 
-def prepared(room, name, quota=1 << 40):
+def prepared(room, name, quota=1 << 40, layout="tables"):
     db = f"{room}/{name}.db"
-    for words in (order("repo", "--name", "team/app", "--quota", str(quota)), ORDERS[2]):
+    for words in (order("repo", *LAYOUTS[layout], "--name", "team/app", "--quota", str(quota)), ORDERS[2]):
         subprocess.run(words(db), check=True)
     return db
 

@@ -1,5 +1,4 @@
 """A server that is killed at random moments of what it is asked."""
-import os
 import random
 import subprocess
 import time
@@ -7,7 +6,7 @@ import time
 from check.hostile.said import say
 from check.hostile.server import Server, answer
 from check.hostile.worlds import world
-from check.hostile.writes import AT, CONFIG, MANIFEST, ORDERS, WRITES_BESIDE, order, push, request
+from check.hostile.writes import AT, CONFIG, LAYOUTS, MANIFEST, ORDERS, order, push, request
 from tools.shared import digest
 
 
@@ -99,17 +98,17 @@ def is_kept(it, db):
 
 def kill_servers(room, kills):
     """Over a registry in tables, and over one whose contents are beside them."""
-    kill_servers_over(f"{room}/kills.db", ORDERS[0], kills)
-    kill_servers_over(f"{room}/kills_beside.db", WRITES_BESIDE[0][1], kills)
+    for layout in LAYOUTS:
+        kill_servers_over(f"{room}/kills-{layout}.db", layout, kills)
 
 
-def kill_servers_over(db, first, kills):
+def kill_servers_over(db, layout, kills):
     chance, it = random.Random(20_261_124), Believed()
-    for words in (first, order("quota", "--name", "team/app", "--quota", "1000000000"), ORDERS[2]):
+    for words in (order("repo", *LAYOUTS[layout], "--name", "team/app", "--quota", "1000000000"), ORDERS[2]):
         subprocess.run(words(db), check=True)
     server = Server(db)
     with server.connect() as connection:
-        say(answer(connection, push(CONFIG))[0] == 201, "the config is pushed")
+        say(answer(connection, push(CONFIG))[0] == 201, f"{layout}: the config is pushed")
     bad = []
     for round_ in range(kills):
         end = time.monotonic() + chance.random() * 0.4
@@ -126,5 +125,5 @@ def kill_servers_over(db, first, kills):
             break
         server = Server(db)
     server.kill()
-    told = f"{kills} kills over {os.path.basename(db)}, {it.count} writes acknowledged, all of them there"
+    told = f"{layout}: {kills} kills, {it.count} writes acknowledged, all of them there"
     say(not bad, told, bad)

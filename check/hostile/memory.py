@@ -3,11 +3,13 @@ import os
 import re
 import subprocess
 
-from tools.shared import EXAMPLES, TOP
+from tools.shared import EXAMPLES, REGISTRY, TOP, digest
+from check.hostile.crowd import prepared
 from check.hostile.said import say
 from check.hostile.server import refuse_in_pushes, status_of_push
 from check.hostile.worlds import EMPTY, copied, rows
-from check.hostile.writes import ORDERS
+from check.hostile.writes import ABC, AT, LAYOUTS, MADE_BESIDE, MANIFEST, NO_ROOM, ORDERS, WRITES
+from check.hostile.writes import order, request
 
 DATA = f"{TOP}/crates/registry_examples/data"
 
@@ -86,20 +88,30 @@ def refuse_in_rows(refusing, room, pool):
         say(not bad and played > own, told, bad)
 
 
-def refuse_in_part(refusing, db, at, words, done, worlds, numbers):
-    """Gives an order with each of these growths refused in turn, on a copy of the file at a place of its own, and
-    returns what went wrong. `done` is its status and its output where memory is ample, `worlds` what the file
-    holds before it and after it."""
-    bad = []
+LACKING = 3, b"", b"registry: out of memory\n"
+
+
+def is_lacking(ran, given):
+    """Whether a program says that memory was wanting: it ends so, or so answers a request."""
+    if (ran.returncode, ran.stdout, ran.stderr) == LACKING:
+        return True
+    return given and (ran.returncode, ran.stdout) == (0, NO_ROOM)
+
+
+def refuse_in_part(refusing, db, at, what, done, worlds, numbers):
+    """Gives an order, or asks a request, with each of these growths refused in turn, on a copy of the file at
+    a place of its own, and returns what went wrong. `what` is its words and what standard input has, `done`
+    its status and its output where memory is ample, `worlds` what the file holds before it and after it."""
+    bad, (words, given) = [], what
     for n in numbers:
         other = copied(db, at)
-        ran, _, _ = refusing.run(words(other), growth=n)
+        ran, _, _ = refusing.run(words(other), growth=n, given=given)
         if (ran.returncode, ran.stdout) != done:
-            if (ran.returncode, ran.stdout, ran.stderr) != (3, b"", b"registry: out of memory\n"):
+            if not is_lacking(ran, given):
                 bad.append(f"growth {n}: status {ran.returncode}: {(ran.stdout + ran.stderr)[-200:]}")
             if rows(other) != worlds[0]:
                 bad.append(f"growth {n}: something is changed")
-            again, _, _ = refusing.run(words(other))
+            again, _, _ = refusing.run(words(other), given=given)
             if (again.returncode, again.stdout) != done:
                 bad.append(f"growth {n}, and again: status {again.returncode}: {again.stderr[-200:]}")
         if rows(other) != worlds[1]:
@@ -109,22 +121,27 @@ def refuse_in_part(refusing, db, at, words, done, worlds, numbers):
     return bad
 
 
-def refuse_in_order(refusing, room, pool, db, words):
-    """Refuses each growth of an order over a file, which is as the order leaves it afterwards; returns how many
-    growths there were."""
-    name, whole, share = words(db)[1], f"{room}/whole.db", os.cpu_count()
+def refuse_in_call(refusing, room, pool, db, name, what, numbers=slice(None), wanted=(b"", b"")):
+    """Refuses these growths, else each, of an order over a file, or of a request, whose reply begins and ends
+    as it is wanted; the file is as it is left afterwards. Returns how many growths there were."""
+    (words, given), whole, share = what, f"{room}/whole.db", os.cpu_count()
     before = rows(copied(db, whole)) if os.path.exists(db) else EMPTY
-    ran, growths, _ = refusing.run(words(whole))
-    say(ran.returncode == 0, f"{name} is done where memory is ample")
-    how = words, (ran.returncode, ran.stdout), (before, rows(whole))
-    parts = [
-        pool.submit(refuse_in_part, refusing, db, f"{room}/part{i}.db", *how, range(1 + i, growths + 1, share))
-        for i in range(share)
-    ]
+    ran, growths, _ = refusing.run(words(whole), given=given)
+    is_done = ran.returncode == 0 and ran.stdout.startswith(wanted[0]) and ran.stdout.endswith(wanted[1])
+    say(is_done, f"{name} is done where memory is ample", [] if is_done else [ran])
+    how = what, (ran.returncode, ran.stdout), (before, rows(whole))
+    numbers = range(1, growths + 1)[numbers]
+    each = [numbers[i::share] for i in range(share)]
+    call = lambda it: pool.submit(refuse_in_part, refusing, db, f"{room}/part{it[0]}.db", *how, it)
+    parts = [call(it) for it in each if it]
     bad = [it for part in parts for it in part.result()]
-    say(not bad, f"{name}: {growths} growths refused in turn", bad)
+    say(not bad, f"{name}: {len(numbers)} growths refused in turn", bad)
     copied(whole, db)
-    return growths
+    return len(numbers)
+
+
+def refuse_in_order(refusing, room, pool, db, words):
+    return refuse_in_call(refusing, room, pool, db, words(db)[1], (words, b""))
 
 
 def refuse_in_orders(refusing, room, pool):
@@ -132,9 +149,39 @@ def refuse_in_orders(refusing, room, pool):
     print(f"      {total} growths of orders")
 
 
+def stdio(db):
+    return [REGISTRY, "stdio", "--db", db]
+
+
+NO_REFERRERS = b'{"manifests":[],"mediaType":"application/vnd.oci.image.index.v1+json","schemaVersion":2}'
+# Reads among the writes, with the status and the end of the reply.
+READS = [
+    ("pull a blob", (request("GET", f"{AT}/blobs/{digest(ABC)}"), 200, ABC)),
+    ("pull a manifest", (request("GET", f"{AT}/manifests/v1"), 200, MANIFEST)),
+    ("list the tags", (request("GET", f"{AT}/tags/list"), 200, b'"tags":["v1","v2"]}')),
+    ("list the referrers", (request("GET", f"{AT}/referrers/{digest(MANIFEST)}"), 200, NO_REFERRERS)),
+]
+# Over a file whose contents are beside it: the making of one, and every order and request of a keeper's.
+BESIDE = [("add a repository", MADE_BESIDE), *WRITES[1:11], *READS, *WRITES[11:]]
+
+
+def refuse_beside(refusing, room, pool):
+    """Each third growth of the making of a registry, and of an order with its opening; in what follows each
+    that is behind the opening. A command that is refused counts those before: its last ones are its own."""
+    db, total, own = f"{room}/beside.db", 0, 30
+    for number, (name, what) in enumerate(BESIDE):
+        call, wanted, numbers = (what, b""), (b"", b""), slice(None, None, 3)
+        if not callable(what):
+            call, wanted = (stdio, what[0]), (b"HTTP/1.1 %d " % what[1], what[2] if what[2:] else b"")
+        if number > 1:
+            _, opening, _ = refusing.run(order("drop", "--name", "no/such")(copied(db, f"{room}/opened.db")))
+            numbers = slice(opening - own, None)
+        total += refuse_in_call(refusing, room, pool, db, f"beside: {name}", call, numbers, wanted)
+    print(f"      {total} growths over a file whose contents are beside it")
+
+
 def refuse_on_sockets(refusing, room):
     """A server that lacks memory for a connection answers 503, or cannot read the request, and serves the next."""
-    db = f"{room}/sockets.db"
-    for words in (ORDERS[0], ORDERS[2]):
-        subprocess.run(words(db), check=True)
-    refuse_in_pushes(refusing, db, f"{room}/socket.db", [status_of_push] * 2, "two pushes")
+    for layout in LAYOUTS:
+        db = prepared(room, f"sockets-{layout}", 1000, layout)
+        refuse_in_pushes(refusing, db, f"{room}/socket.db", [status_of_push] * 2, "two pushes", layout)

@@ -7,7 +7,7 @@ from check.hostile.crowd import prepared
 from check.hostile.said import say
 from check.hostile.server import Server, answer, asked_on_sockets
 from check.hostile.worlds import copied
-from check.hostile.writes import AT, CONFIG, MANIFEST, push, request
+from check.hostile.writes import AT, CONFIG, LAYOUTS, MANIFEST, push, request
 from tools.shared import digest
 
 BODY = hashlib.shake_256(b"a reply").digest(300_000)
@@ -22,14 +22,15 @@ ASKED = [
 ]
 
 
-def filled(room):
-    db = prepared(room, "replies")
+def filled(room, layout):
+    db = prepared(room, f"replies-{layout}", layout=layout)
     server = Server(db, stderr=subprocess.DEVNULL)
     texts = [push(BODY), push(CONFIG), request("PUT", f"{AT}/manifests/v1", MANIFEST)]
     with server.connect() as connection:
         statuses = [reply and reply[0] for reply in (answer(connection, it) for it in texts)]
     server.kill()
-    say(statuses == [201] * 3, "a blob and a manifest are pushed", [] if statuses == [201] * 3 else [statuses])
+    held = statuses == [201] * 3
+    say(held, f"{layout}: a blob and a manifest are pushed", [] if held else [statuses])
     return db
 
 
@@ -60,12 +61,13 @@ def says_nothing(connection):
     return connection.recv(1)
 
 
-def refuse_in_reply(refusing, db, at, least, target, body):
+def refuse_in_reply(refusing, db, at, least, target, body, layout):
     """A growth is refused that the connection makes, or the request: at first each fifth, and in the end, where the
     reply is made, each."""
     ask, seen, bad = asking_for(target, body), {}, []
     (found,), most, _ = asked_on_sockets(refusing, copied(db, at), [ask])
-    say(found == WHOLE, f"GET {target[:24]} is answered, in {most - least} growths", [] if found == WHOLE else [found])
+    told = f"{layout}: GET {target[:24]} is answered, in {most - least} growths"
+    say(found == WHOLE, told, [] if found == WHOLE else [found])
     for growth in (*range(least, most - LAST, 5), *range(max(least, most - LAST), most + 1)):
         (found,), _, _ = asked_on_sockets(refusing, copied(db, at), [ask], growth=growth)
         seen[found] = seen.get(found, 0) + 1
@@ -73,11 +75,12 @@ def refuse_in_reply(refusing, db, at, least, target, body):
         if found not in ((WHOLE, REFUSED, NOTHING) if growth <= least else (WHOLE, REFUSED)):
             bad.append(f"growth {growth - least}: {found}")
     told = ", ".join(f"{what}: {count}" for what, count in seen.items())
-    say(not bad and REFUSED in seen, f"growths refused to it in turn: {told}", bad)
+    say(not bad and REFUSED in seen, f"{layout}: growths refused to it in turn: {told}", bad)
 
 
 def refuse_in_replies(refusing, room):
-    db, at = filled(room), f"{room}/reply.db"
-    _, least, _ = asked_on_sockets(refusing, copied(db, at), [says_nothing])
-    for target, body in ASKED:
-        refuse_in_reply(refusing, db, at, least, target, body)
+    for layout in LAYOUTS:
+        db, at = filled(room, layout), f"{room}/reply.db"
+        _, least, _ = asked_on_sockets(refusing, copied(db, at), [says_nothing])
+        for target, body in ASKED:
+            refuse_in_reply(refusing, db, at, least, target, body, layout)

@@ -111,11 +111,11 @@ def answered_alone(server, texts):
     return alone
 
 
-def refuse_in_pushes(refusing, db, at, asks, what):
+def refuse_in_pushes(refusing, db, at, asks, what, layout):
     """Two pushes to a server with each third of their growths of memory refused, one a run: who lacks memory is
     answered 503, or not at all, and the next is served."""
     statuses, growths, _ = asked_on_sockets(refusing, copied(db, at), asks)
-    say(statuses == [201, 201], f"a server over a socket answers {what} 201")
+    say(statuses == [201, 201], f"{layout}: a server over a socket answers {what} 201")
     seen, bad = {}, []
     # both pushes lie in the last growths; the opening of the file takes those before
     for n in range(growths, growths - 600, -3):
@@ -128,4 +128,4 @@ def refuse_in_pushes(refusing, db, at, asks, what):
         if statuses not in ([201, 201], [503, 201], [201, 503], [None, 201], [201, None]):
             bad.append(f"growth {n}: {statuses}")
     told = f"{sum(seen.values())} growths refused in {what}, answered {', '.join(f'{k}: {v}' for k, v in seen.items())}"
-    say(not bad and (503, 201) in seen, told, bad)
+    say(not bad and (503, 201) in seen, f"{layout}: {told}", bad)

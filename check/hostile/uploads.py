@@ -1,5 +1,5 @@
-"""Large uploads, whose bodies are put aside as they come: cut and interleaved, amid refused growths, failing writes and
-kills."""
+"""Large uploads, whose bodies are put aside as they come: cut and interleaved, amid refused growths, failing
+writes and kills; over both layouts."""
 import random
 import socket
 import subprocess
@@ -10,7 +10,7 @@ from check.hostile.crowd import prepared
 from check.hostile.said import SECONDS, say
 from check.hostile.server import Server, answer, answered_alone, asked_on_sockets, collected, refuse_in_pushes, status_of
 from check.hostile.worlds import copied, world
-from check.hostile.writes import ABC, AT, push, request
+from check.hostile.writes import ABC, AT, LAYOUTS, push, request
 from tools.shared import digest
 
 # three times what a connection keeps of a request, and more than a piece of it more
@@ -79,13 +79,14 @@ def together(calls):
         it.join(10 * SECONDS)
 
 
-def interleave_large(room):
+def interleave_large(room, layout):
     """Eight connections with large bodies, cut as drawn; each gets what it gets alone, also where there is room for one
     body in chunks at a time."""
     said = subjects()
     texts = [b"".join(it) for it in said]
     for words in ((), ("--staged", str(64 << 20))):
-        server = Server(prepared(room, f"large-{len(words)}"), *words, stderr=subprocess.DEVNULL)
+        db = prepared(room, f"large-{layout}-{len(words)}", layout=layout)
+        server = Server(db, *words, stderr=subprocess.DEVNULL)
         alone = answered_alone(server, texts)
         bad = [f"connection {at}" for at, it in enumerate(alone) if it.count(b"HTTP/1.1 ") != len(said[at])]
         bad += [f"connection {at}: {status}" for at, it in enumerate(alone) for status in (500, 503) if b"HTTP/1.1 %d" % status in it]
@@ -93,7 +94,8 @@ def interleave_large(room):
             replies = [None] * len(texts)
             together([(say_in_pieces, server, it, random.Random(8 * seed + at), replies, at) for at, it in enumerate(texts)])
             bad += [f"seed {seed}, connection {at}" for at, it in enumerate(replies) if it != alone[at]]
-        say(not bad, f"large bodies of eight connections, cut in 10 ways ({' '.join(words) or 'by default'}), are answered as alone", bad)
+        told = f"cut in 10 ways ({' '.join(words) or 'by default'}), are answered as alone"
+        say(not bad, f"{layout}: large bodies of eight connections, {told}", bad)
         server.kill()
 
 
@@ -103,15 +105,21 @@ def chunk(connection):
     return opened, status_of(request("PATCH", f"{AT}/blobs/uploads/1", drawn_bytes(1, LARGE)))(connection)
 
 
-def refuse_growths(refusing, room):
+def refuse_growths(refusing, room, layout):
     """Each third growth of memory in pushes of a large body."""
-    asks = [status_of(push(drawn_bytes(1, LARGE)))] * 2
-    refuse_in_pushes(refusing, prepared(room, "growths"), f"{room}/growth.db", asks, f"two pushes of {LARGE} bytes")
+    asks, db = [status_of(push(drawn_bytes(1, LARGE)))] * 2, prepared(room, f"grows-{layout}", layout=layout)
+    refuse_in_pushes(refusing, db, f"{room}/growth.db", asks, f"two pushes of {LARGE} bytes", layout)
 
 
-def fail_writes(refusing, room):
-    """Each write of the disk amid a large chunk."""
-    db, at = prepared(room, "writes"), f"{room}/write.db"
+# What may be found of a session by the statuses of its opening and of a large chunk.
+WHOLE, NONE = {1: drawn_bytes(1, LARGE)}, {1: b""}
+FOUND = {(202, 202): [WHOLE], (202, 500): [NONE, WHOLE], (202, None): [NONE, WHOLE], (202, 503): [NONE]}
+
+
+def fail_writes(refusing, room, layout):
+    """Each write of the disk amid a large chunk. Where the file of contents takes no bytes there is no room
+    for them (503), and the storage has not failed."""
+    db, at = prepared(room, f"writes-{layout}", layout=layout), f"{room}/write.db"
     asks = [chunk, status_of(push(ABC))]
     found, _, writes = asked_on_sockets(refusing, copied(db, at), asks)
     bad, seen = [] if found == [(202, 202), 201] else [found], {}
@@ -122,18 +130,19 @@ def fail_writes(refusing, room):
             # the file is not opened
             continue
         seen[statuses] = seen.get(statuses, 0) + 1
-        sessions = world(at)[0]["team/app"]["sessions"]
-        whole, none = {1: drawn_bytes(1, LARGE)}, {1: b""}
-        wanted = {(202, 202): [whole], (202, 500): [none, whole], (202, None): [none, whole]}.get(statuses, [{}, none])
-        if sessions not in wanted or after not in (201, 500):
+        sessions, wanted = world(at)[0]["team/app"]["sessions"], FOUND.get(statuses, [{}, NONE])
+        is_right = after in (201, 500) or (after, layout) == (503, "beside")
+        if sessions not in wanted or not is_right or (statuses == (202, 503) and layout == "tables"):
             bad.append(f"write {n}: {statuses}, then {after}")
-    told = f"{writes} writes that fail once amid a chunk of {LARGE} bytes, answered {', '.join(f'{k}: {v}' for k, v in seen.items())}: all of it is there, or nothing"
-    say(not bad and (202, 500) in seen, told, bad)
+    answers = ", ".join(f"{k}: {v}" for k, v in seen.items())
+    told = f"{layout}: {writes} writes that fail once amid a chunk of {LARGE} bytes, answered {answers}"
+    held = (202, 500) in seen and ((202, 503) in seen or layout == "tables")
+    say(not bad and held, f"{told}: all of it is there, or nothing", bad)
 
 
-def kill_amid(room, kills):
+def kill_amid(room, kills, layout):
     """Servers that are killed amid eight uploads."""
-    db, chance, acknowledged, bad = prepared(room, "amid"), random.Random(53), {}, []
+    db, chance, acknowledged, bad = prepared(room, f"amid-{layout}", layout=layout), random.Random(53), {}, []
 
     def upload(server, drawn):
         try:
@@ -160,11 +169,13 @@ def kill_amid(room, kills):
     held = {} if found == "unsound" else found[0]["team/app"]["blobs"]
     bad += [name for name, body in acknowledged.items() if held.get(name) != body]
     bad += [name for name, body in held.items() if digest(body) != name]
-    say(not bad and acknowledged, f"{kills} kills amid eight uploads: all {len(acknowledged)} that were acknowledged are there", bad)
+    told = f"all {len(acknowledged)} that were acknowledged are there"
+    say(not bad and acknowledged, f"{layout}: {kills} kills amid eight uploads: {told}", bad)
 
 
 def upload_large(refusing, room, kills):
-    interleave_large(room)
-    refuse_growths(refusing, room)
-    fail_writes(refusing, room)
-    kill_amid(room, max(5, kills // 5))
+    for layout in LAYOUTS:
+        interleave_large(room, layout)
+        refuse_growths(refusing, room, layout)
+        fail_writes(refusing, room, layout)
+        kill_amid(room, max(5, kills // 5), layout)

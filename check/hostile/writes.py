@@ -14,6 +14,9 @@ def order(*words):
     return functools.partial(order_of, words)
 
 
+# What a new registry is told of where its contents are.
+LAYOUTS = {"tables": (), "beside": ("--layout", "beside")}
+
 GRANT = order("grant", "--token", "t1", "--name", "team/app", "--level", "3")
 
 # Orders one after the other, each on what those before it left.
@@ -92,4 +95,5 @@ WRITES = [
 ]
 
 # The same over a registry whose contents are beside its database.
-WRITES_BESIDE = [("add a repository beside", order("repo", "--layout", "beside", "--name", "team/app", "--quota", "1000")), *WRITES[1:]]
+MADE_BESIDE = order("repo", *LAYOUTS["beside"], "--name", "team/app", "--quota", "1000")
+WRITES_BESIDE = [("add a repository beside", MADE_BESIDE), *WRITES[1:]]
